@@ -1,0 +1,3 @@
+pub mod Grids
+pub mod Counts
+pub mod Changes

@@ -1,0 +1,4 @@
+pub mod Numbers
+pub mod Grid
+pub mod Calls
+pub mod Texts

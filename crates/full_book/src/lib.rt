@@ -1,0 +1,2 @@
+pub mod lent;
+pub mod rows;

@@ -1,0 +1,5 @@
+pub mod afrr;
+pub mod direction;
+pub mod fcr;
+pub mod interface;
+pub mod reserve;

@@ -1,0 +1,6 @@
+pub mod calls;
+pub mod malformed;
+pub mod perform;
+pub mod quantities;
+pub mod reading;
+pub mod words;
