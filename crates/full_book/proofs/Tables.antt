@@ -19,17 +19,18 @@ use Rattle.book.specs.Calls.{heldAt, full, crowded, change-refusal, everything,
 use Rattle.book.specs.declared.answers.BookRefusal.{BookRefusal}
 use Rattle.book.specs.declared.answers.BookRefusal.the-variants.{NoFreePlace}
 use Rattle.book.proofs.Grids.{range-from, range-parts, put-same}
-use Rattle.book.proofs.Counts.{taken-short}
+use Rattle.book.proofs.Counts.{taken-short, nothing-zero}
 use Rattle.full_book.specs.Rows.{enough, rowsHeld, rowsPlaces, blanked}
 
 -- a loop that writes y over each row: one more
 pub blank-more : {R : Type 0} (rows now : List R) (i : ℕ) (y : R) → i < length rows → now ≡ map (λ _. y) (take i rows) ++ drop i rows → set now i y ≡ map (λ _. y) (take (i + 1) rows) ++ drop (i + 1) rows
 blank-more rows now i y l e = map-over-more (λ _. y) rows now i (getD now i y) l e (getD-default now i y (getD now i y) (rw e (simp (length-append, length-map, length-take, length-drop) (omega arith))))
 
-module _ {Q R : Type 0} (m : Measure Q R) where
-  pub nothing-zero : isZero m (m .nothing) ≡ true
-  nothing-zero = m .same-alike (m .nothing) (m .nothing) refl
+-- as many rows, as many places
+pub same-places : {R : Type 0} (xs ys : List R) → length xs ≡ length ys → rowsPlaces xs ≡ rowsPlaces ys
+same-places xs ys e = ap {B = ℕ} (λ n. cond (leb 3200 n) 3200 0) e
 
+module _ {Q R : Type 0} (m : Measure Q R) where
   module _ (rows : List R) where
     -- the row of a provider and quarter
     abbrev pub row-at : ℕ → ℕ → R
@@ -119,7 +120,7 @@ module _ {Q R : Type 0} (m : Measure Q R) where
     -- too few rows for all
     module _ (e : enough rows ≡ false) (p t : ℕ) (q : Q) where
       zero-here : isZero m (rowsHeld m rows p t) ≡ true
-      zero-here = ap (isZero m) (held-few e p t) ∙ nothing-zero
+      zero-here = ap (isZero m) (held-few e p t) ∙ nothing-zero m
 
       none-free : leb (rowsPlaces rows) (taken m (rowsHeld m rows)) ≡ true
       none-free = ap (λ n. leb n (taken m (rowsHeld m rows))) (cond-false (enough rows) 3200 0 e) ∙ le-leb 0 (taken m (rowsHeld m rows)) (omega arith)
@@ -137,6 +138,20 @@ module _ {Q R : Type 0} (m : Measure Q R) where
       pub few-answer : isZero m q ≡ false → (refusal : BookRefusal) (new : Option Q) → new ≡ Some q → Some NoFreePlace ≡ change-refusal m (rowsHeld m rows) (rowsPlaces rows) refusal (everything p t) p t new
       few-answer z refusal new s =
           sym (ap (change-refusal m (rowsHeld m rows) (rowsPlaces rows) refusal (everything p t) p t) s ∙ ap (crowded m (rowsHeld m rows) (rowsPlaces rows)) (and-from (isZero m (rowsHeld m rows p t)) (not (isZero m q) && leb (rowsPlaces rows) (taken m (rowsHeld m rows))) zero-here (and-from (not (isZero m q)) (leb (rowsPlaces rows) (taken m (rowsHeld m rows))) (not-from-false (isZero m q) z) none-free)))
+
+  -- rows of which the first 3,200 are zero's tell zero
+  module _ (rows : List R) (zero-rows : enough rows ≡ true → (k : ℕ) → k < 3200 → getD rows k (m .row (m .nothing)) ≡ m .row (m .nothing)) where
+    zeros-amount : (p t : ℕ) (r : Bool) → inRange p t ≡ r → (e : Bool) → enough rows ≡ e → m .amount (rowsHeld m rows p t) ≡ m .none
+    zeros-amount p t false h e k = ap (m .amount) (held-outside rows p t h) ∙ m .nothing-none
+    zeros-amount p t true h false k = ap (m .amount) (held-few rows k p t) ∙ m .nothing-none
+    zeros-amount p t true h true k =
+        let l = range-parts p t h in
+        ap (m .amount) (held-inside rows k p t (l .0) (l .1))
+        ∙ (ap (λ y. m .amount (m .told y)) (zero-rows k (p * 100 + t) (omega (arith, l .0, l .1))) ∙ (m .row-told (m .nothing) ∙ m .nothing-none))
+
+    pub zeros-empty : amounts m (rowsHeld m rows) ≡ (λ _ _. m .none)
+    unfolding amounts
+    zeros-empty = fun-ext (λ p. fun-ext (λ t. zeros-amount p t (inRange p t) refl (enough rows) refl))
 
   -- blanked rows tell zero
   module _ (rows : List R) where
@@ -159,14 +174,5 @@ module _ {Q R : Type 0} (m : Measure Q R) where
         same : 3200 ≤ length rows → length (zeros ++ drop 3200 rows) ≡ length rows
         same h = simp (length-append, length-map, length-take, length-drop) (omega arith)
 
-    blank-amount : (p t : ℕ) (r : Bool) → inRange p t ≡ r → (e : Bool) → enough rows ≡ e → m .amount (rowsHeld m (blanked m rows) p t) ≡ m .none
-    blank-amount p t false h e k = ap (m .amount) (held-outside (blanked m rows) p t h) ∙ m .nothing-none
-    blank-amount p t true h false k = ap (m .amount) (held-few (blanked m rows) (blank-enough ∙ k) p t) ∙ m .nothing-none
-    blank-amount p t true h true k =
-        let l = range-parts p t h in
-        ap (m .amount) (held-inside (blanked m rows) (blank-enough ∙ k) p t (l .0) (l .1))
-        ∙ (ap (λ y. m .amount (m .told y)) (blank-row k (p * 100 + t) (omega (arith, l .0, l .1))) ∙ (m .row-told (m .nothing) ∙ m .nothing-none))
-
     pub blank-empty : amounts m (rowsHeld m (blanked m rows)) ≡ (λ _ _. m .none)
-    unfolding amounts
-    blank-empty = fun-ext (λ p. fun-ext (λ t. blank-amount p t (inRange p t) refl (enough rows) refl))
+    blank-empty = zeros-empty (blanked m rows) (λ e k l. blank-row (sym blank-enough ∙ e) k l)

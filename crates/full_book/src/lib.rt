@@ -1,2 +1,3 @@
 pub mod lent;
 pub mod rows;
+pub mod stored;

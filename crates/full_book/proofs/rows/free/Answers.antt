@@ -6,9 +6,9 @@ use native.Mathlib.Omega.{arith}
 use Rattle.std.proofs.shelf.Tests.{cond-true, cond-false, le-leb, lt-leb}
 use Rattle.quantity.specs.Measure.{isZero}
 use Rattle.book.specs.Grid.{total, filled, taken}
-use Rattle.book.proofs.Counts.{total-none, total-more, taken-none, taken-is}
+use Rattle.book.proofs.Counts.{total-none, total-more, taken-none, taken-is, nothing-zero}
 use Rattle.full_book.specs.Rows.{enough, rowsHeld}
-use Rattle.full_book.proofs.Tables.{held-few, nothing-zero}
+use Rattle.full_book.proofs.Tables.{held-few}
 use Rattle.full_book.proofs.rows.free.Needs as need
 
 pub returns-then-rows-lt3200 : need.returns-then-rows-lt3200

@@ -1,0 +1,32 @@
+use mathlib.Core.Path.{_≡_, refl, sym, _∙_, ap}
+use lib.ListN.{length, drop}
+use native.Mathlib.Omega.{arith}
+use Rattle.std.proofs.shelf.Lists.{take-at}
+use Rattle.std.specs.Of.Vec.{vec-items}
+use Rattle.book.specs.Grid.{amounts}
+use Rattle.book.specs.Numbers.{answer-number}
+use Rattle.book.specs.Calls.{everything, raise-refusal, raised}
+use Rattle.sparse_book.specs.Records.{apart, recordsHeld}
+use Rattle.sparse_book.proofs.stored.calls.StoredSparseIsBook.raise.Needs as need
+
+pub raise-requires : need.raise-requires
+raise-requires g c κs = ap apart (c .as-mut-slice .ensures .value) ∙ c .args .self .now .apart
+
+pub ghost-self : need.ghost-self
+ghost-self g c =
+    let size : length (c .raise .last .slots) ≡ c .args .self .now .slots .len = omega arith in
+    (ap apart (take-at (c .raise .last .slots) (drop (length (c .raise .last .slots)) (c .args .self .now .slots .items)) (c .args .self .now .slots .len) size) ∙ c .raise .ensures .apart, tt)
+
+pub returns : need.returns
+returns g c =
+    let m = g .K·Quantity .measure in
+    let lent = c .as-mut-slice .ensures .value in
+    let size : length (c .raise .last .slots) ≡ c .args .self .now .slots .len = omega arith in
+    let back = take-at (c .raise .last .slots) (drop (length (c .raise .last .slots)) (c .args .self .now .slots .items)) (c .args .self .now .slots .len) size in
+    record {
+      answer = c .raise .ensures .answer ∙ ap (λ ss. answer-number (raise-refusal m (recordsHeld m ss) (length ss) everything (c .args .provider) (c .args .quarter) (c .args .quantity))) lent;
+      after = ap (λ ss. amounts m (recordsHeld m ss)) back ∙ (c .raise .ensures .after ∙ ap (λ ss. raised m (recordsHeld m ss) (length ss) everything (c .args .provider) (c .args .quarter) (c .args .quantity)) lent);
+      places = ap length back ∙ (c .raise .ensures .places ∙ ap length lent);
+      admission = refl;
+      layer = refl;
+    }

@@ -1,0 +1,4 @@
+pub mod lent;
+pub mod record;
+pub mod records;
+pub mod stored;
