@@ -8,11 +8,12 @@ use Rattle.std.specs.declared.option.Option.the-variants.{Some, None}
 use Rattle.std.specs.Options.{valueOr}
 use Rattle.quantity.specs.Measure.{Measure, Sum, isZero}
 use Rattle.book.specs.Grid.{Grid, inRange, put, amounts}
-use Rattle.book.specs.Calls.{heldAt, unless, everything, changed, change-refusal, raise-refusal, lower-refusal, raised, lowered}
+use Rattle.book.specs.Calls.{heldAt, barred, full, crowded, unless, everything, changed, change-refusal, raise-refusal, lower-refusal, raised, lowered}
+use Rattle.book.specs.declared.answers.Cause.{Cause}
 use Rattle.book.specs.declared.answers.Admission.{Admission}
 use Rattle.book.specs.declared.answers.Admission.the-variants.{Yes, No}
 use Rattle.book.specs.declared.answers.BookRefusal.{BookRefusal}
-use Rattle.book.specs.declared.answers.BookRefusal.the-variants.{OutsideRange, NoRemainder, SumDoesNotFit}
+use Rattle.book.specs.declared.answers.BookRefusal.the-variants.{OutsideRange, NoRemainder, SumDoesNotFit, NotAdmitted}
 
 pub held-inside : {Q R : Type 0} (m : Measure Q R) (held : Grid Q) (p t : ℕ) → inRange p t ≡ true → heldAt m held p t ≡ held p t
 held-inside m held p t e = cond-true (inRange p t) (held p t) (m .nothing) e
@@ -61,6 +62,32 @@ module _ {Q R : Type 0} (m : Measure Q R) (held : Grid Q) (places : ℕ) (p t : 
 
     pub lower-outside-after : inRange p t ≡ false → amounts m held ≡ lowered m held places p t q
     lower-outside-after e = sym (lowered-is ∙ ap (λ r. changed m held p t r (m .remaining (held p t) q)) (lower-outside e))
+
+    -- a refused raise changes nothing
+    pub raise-refused-after : (admission : ℕ → ℕ → Q → Admission) (refusal : BookRefusal) → raise-refusal m held places admission p t q ≡ Some refusal → amounts m held ≡ raised m held places admission p t q
+    raise-refused-after admission refusal e = sym (raised-is admission ∙ ap (λ r. changed m held p t r (m .joined (held p t) q)) e)
+
+    -- a raise inside the range, by its sum
+    module _ (inside : inRange p t ≡ true) where
+      pub raise-no-sum : (admission : ℕ → ℕ → Q → Admission) → m .joined (held p t) q ≡ None → raise-refusal m held places admission p t q ≡ Some SumDoesNotFit
+      raise-no-sum admission e = raise-inside admission inside ∙ ap (change-refusal m held places SumDoesNotFit (admission p t) p t) e
+
+      module _ (sum : Q) (is : m .joined (held p t) q ≡ Some sum) where
+        abbrev by-admission : Admission → Option BookRefusal
+        by-admission a = barred a (crowded m held places (full m held places p t sum))
+
+        raise-by : (admission : ℕ → ℕ → Q → Admission) → raise-refusal m held places admission p t q ≡ by-admission (admission p t sum)
+        raise-by admission = raise-inside admission inside ∙ ap (change-refusal m held places SumDoesNotFit (admission p t) p t) is
+
+        pub raise-barred : (admission : ℕ → ℕ → Q → Admission) (cause : Cause) → admission p t sum ≡ No cause → raise-refusal m held places admission p t q ≡ Some (NotAdmitted cause)
+        raise-barred admission cause e = raise-by admission ∙ ap by-admission e
+
+        -- two books that say the same of the sum answer alike
+        pub raise-same : (a b : ℕ → ℕ → Q → Admission) → a p t sum ≡ b p t sum → raise-refusal m held places a p t q ≡ raise-refusal m held places b p t q
+        raise-same a b e = raise-by a ∙ (ap by-admission e ∙ sym (raise-by b))
+
+        pub raised-same : (a b : ℕ → ℕ → Q → Admission) → a p t sum ≡ b p t sum → raised m held places a p t q ≡ raised m held places b p t q
+        raised-same a b e = raised-is a ∙ (ap (λ r. changed m held p t r (m .joined (held p t) q)) (raise-same a b e) ∙ sym (raised-is b))
 
     -- inside it a change to the sum or the remainder is what is asked
     module _ (inside : inRange p t ≡ true) (new : Option Q) (refusal : Option BookRefusal) where

@@ -1,3 +1,4 @@
 pub mod Grids
 pub mod Counts
 pub mod Changes
+pub mod Told

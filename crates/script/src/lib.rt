@@ -3,4 +3,5 @@ pub mod malformed;
 pub mod perform;
 pub mod quantities;
 pub mod reading;
+pub mod settings;
 pub mod words;

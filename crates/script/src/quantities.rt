@@ -2,14 +2,16 @@ use crate::malformed::Malformed;
 use crate::words::tenths;
 use quantity::afrr::Band;
 use quantity::afrr::laws::BandQuantity;
+use quantity::afrr::laws::BandReserve;
 use quantity::fcr::Volume;
 use quantity::fcr::laws::VolumeQuantity;
-use quantity::interface::Quantity;
+use quantity::fcr::laws::VolumeReserve;
+use quantity::reserve::ReserveQuantity;
 use std::alloc::AllocError;
 use std::alloc::Global;
 
 /// A quantity as a script writes it.
-pub trait Written: Quantity {
+pub trait Written: ReserveQuantity {
     fn read(word: &str) -> Result<Self, Malformed>;
 
     fn text(self, heap: Global) -> Result<String, AllocError>;

@@ -1,13 +1,68 @@
 use crate::calls::Call;
-use crate::calls::Service;
 use crate::malformed::Malformed;
 use crate::quantities::Written;
+use crate::settings::Bottom;
+use crate::settings::Line;
+use crate::settings::Service;
+use crate::settings::Setting;
+use crate::words::limit;
+use crate::words::next_word;
+use crate::words::no_more;
+use crate::words::places;
 use crate::words::small;
 use crate::words::without_comment;
+use quantity::direction::Direction;
 use std::str::SplitWhitespace;
 
-fn next_word<'a>(words: &mut SplitWhitespace<'a>) -> Result<&'a str, Malformed> {
-    words.next().ok_or(Malformed::WordMissing)
+fn read_service(words: &mut SplitWhitespace<'_>) -> Result<Setting, Malformed> {
+    match next_word(words)? {
+        "fcr" => Ok(Setting::Service(Service::Fcr)),
+        "afrr" => Ok(Setting::Service(Service::Afrr)),
+        _ => Err(Malformed::UnknownService),
+    }
+}
+
+fn read_books(words: &mut SplitWhitespace<'_>) -> Result<Setting, Malformed> {
+    match next_word(words)? {
+        "full" => Ok(Setting::Books(Bottom::Full)),
+        "sparse" => Ok(Setting::Books(Bottom::Sparse(places(next_word(words)?)?))),
+        _ => Err(Malformed::UnknownBooks),
+    }
+}
+
+fn read_limits(words: &mut SplitWhitespace<'_>) -> Result<Setting, Malformed> {
+    match next_word(words)? {
+        "on" => Ok(Setting::Limits(true)),
+        "off" => Ok(Setting::Limits(false)),
+        _ => Err(Malformed::NotOnOff),
+    }
+}
+
+fn read_limit(words: &mut SplitWhitespace<'_>) -> Result<Setting, Malformed> {
+    let provider = small(next_word(words)?)?;
+    let direction = match next_word(words)? {
+        "up" => Direction::Up,
+        "down" => Direction::Down,
+        _ => return Err(Malformed::UnknownDirection),
+    };
+    let tenths = limit(next_word(words)?)?;
+    Ok(Setting::Limit { provider, direction, tenths })
+}
+
+/// What a line is, or what is wrong with it; a call is not read yet.
+pub fn read_line(line: &str) -> Result<Line, Malformed> {
+    let mut words = without_comment(line).split_whitespace();
+    let setting = match words.next() {
+        None => return Ok(Line::Blank),
+        Some("service") => read_service(&mut words)?,
+        Some("books") => read_books(&mut words)?,
+        Some("limits") => read_limits(&mut words)?,
+        Some("limit") => read_limit(&mut words)?,
+        Some("raise") | Some("lower") | Some("holding") | Some("free") => return Ok(Line::Call),
+        Some(_) => return Err(Malformed::UnknownWord),
+    };
+    no_more(&mut words)?;
+    Ok(Line::Setting(setting))
 }
 
 // The provider, quarter and quantity of a change.
@@ -18,26 +73,15 @@ fn read_change<Q: Written>(words: &mut SplitWhitespace<'_>) -> Result<(u8, u8, Q
     Ok((provider, quarter, quantity))
 }
 
-fn read_words<Q: Written>(
-    word: &str,
-    words: &mut SplitWhitespace<'_>,
-) -> Result<Call<Q>, Malformed> {
-    match word {
+fn read_words<Q: Written>(words: &mut SplitWhitespace<'_>) -> Result<Call<Q>, Malformed> {
+    match next_word(words)? {
         "raise" => {
             let (provider, quarter, quantity) = read_change(words)?;
-            Ok(Call::Raise {
-                provider,
-                quarter,
-                quantity,
-            })
+            Ok(Call::Raise { provider, quarter, quantity })
         }
         "lower" => {
             let (provider, quarter, quantity) = read_change(words)?;
-            Ok(Call::Lower {
-                provider,
-                quarter,
-                quantity,
-            })
+            Ok(Call::Lower { provider, quarter, quantity })
         }
         "holding" => {
             let provider = small(next_word(words)?)?;
@@ -45,44 +89,14 @@ fn read_words<Q: Written>(
             Ok(Call::Holding { provider, quarter })
         }
         "free" => Ok(Call::Free),
-        "service" => Err(Malformed::ServiceAgain),
         _ => Err(Malformed::UnknownWord),
     }
 }
 
-// Refuses a word that is left.
-fn no_more(words: &mut SplitWhitespace<'_>) -> Result<(), Malformed> {
-    match words.next() {
-        None => Ok(()),
-        Some(_) => Err(Malformed::WordTooMany),
-    }
-}
-
-/// The call of a line, none where it is blank, or what is wrong with it.
-pub fn read_call<Q: Written>(line: &str) -> Result<Option<Call<Q>>, Malformed> {
+/// The call of a line, or what is wrong with it.
+pub fn read_call<Q: Written>(line: &str) -> Result<Call<Q>, Malformed> {
     let mut words = without_comment(line).split_whitespace();
-    let Some(word) = words.next() else {
-        return Ok(None);
-    };
-    let call = read_words(word, &mut words)?;
+    let call = read_words(&mut words)?;
     no_more(&mut words)?;
-    Ok(Some(call))
-}
-
-/// The service that a line chooses, none where it is blank, or what is wrong with it.
-pub fn read_service(line: &str) -> Result<Option<Service>, Malformed> {
-    let mut words = without_comment(line).split_whitespace();
-    let Some(word) = words.next() else {
-        return Ok(None);
-    };
-    if word != "service" {
-        return Err(Malformed::ServiceFirst);
-    }
-    let service = match next_word(&mut words)? {
-        "fcr" => Service::Fcr,
-        "afrr" => Service::Afrr,
-        _ => return Err(Malformed::UnknownService),
-    };
-    no_more(&mut words)?;
-    Ok(Some(service))
+    Ok(call)
 }
