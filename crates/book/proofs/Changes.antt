@@ -1,6 +1,7 @@
 -- What raising and lowering answer and change, by what the quantity's call answered.
-use mathlib.Core.Path.{_≡_, refl, sym, _∙_, ap}
-use mathlib.Core.Bool.{Bool, true, false, cond}
+use mathlib.Core.Path.{_≡_, refl, sym, _∙_, ap, fun-ext}
+use mathlib.Core.Bool.{Bool, true, false, _&&_, cond}
+use lib.Dec.{eqb}
 use Prim.Native.Nat.{ℕ}
 use Rattle.std.proofs.shelf.Tests.{cond-true, cond-false}
 use Rattle.std.specs.declared.option.Option.{Option}
@@ -14,6 +15,15 @@ use Rattle.book.specs.declared.answers.Admission.{Admission}
 use Rattle.book.specs.declared.answers.Admission.the-variants.{Yes, No}
 use Rattle.book.specs.declared.answers.BookRefusal.{BookRefusal}
 use Rattle.book.specs.declared.answers.BookRefusal.the-variants.{OutsideRange, NoRemainder, SumDoesNotFit, NotAdmitted}
+
+-- the amounts of a table with one holding written
+pub amounts-put : {Q R : Type 0} (m : Measure Q R) (g : Grid Q) (p t : ℕ) (q : Q) → amounts m (put g p t q) ≡ put (amounts m g) p t (m .amount q)
+unfolding amounts put
+amounts-put m g p t q = fun-ext (λ x. fun-ext (λ u. at x u (eqb x p && eqb u t)))
+  where
+    at : (x u : ℕ) (b : Bool) → m .amount (cond b q (g x u)) ≡ cond b (m .amount q) (m .amount (g x u))
+    at x u true = refl
+    at x u false = refl
 
 pub held-inside : {Q R : Type 0} (m : Measure Q R) (held : Grid Q) (p t : ℕ) → inRange p t ≡ true → heldAt m held p t ≡ held p t
 held-inside m held p t e = cond-true (inRange p t) (held p t) (m .nothing) e

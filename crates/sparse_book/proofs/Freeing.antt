@@ -15,7 +15,8 @@ use Rattle.book.specs.Grid.{Grid, inRange, put, amounts}
 use Rattle.book.proofs.Grids.{put-same}
 use Rattle.sparse_book.specs.declared.record.Record.{Record}
 use Rattle.sparse_book.specs.Records.{Slot, keyed, vacant, firstAt, mentions, apart, recordsHeld, released}
-use Rattle.sparse_book.proofs.Grids.{put-again, put-other, amounts-put}
+use Rattle.book.proofs.Changes.{amounts-put}
+use Rattle.sparse_book.proofs.Grids.{put-again, put-other}
 use Rattle.sparse_book.proofs.Slots.{apart-parts, apart-from, unmentioned, unmentioned-from, held-unmentioned}
 
 module _ {R : Type 0} where

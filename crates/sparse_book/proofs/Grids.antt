@@ -4,8 +4,7 @@ use mathlib.Core.Bool.{Bool, true, false, _&&_, cond}
 use lib.Dec.{eqb}
 use Prim.Native.Nat.{ℕ}
 use Rattle.std.proofs.shelf.Tests.{and-parts, and-from, eq-eqb, eqb-true, both-ways}
-use Rattle.quantity.specs.Measure.{Measure}
-use Rattle.book.specs.Grid.{Grid, put, amounts}
+use Rattle.book.specs.Grid.{Grid, put}
 
 module _ {A : Type 0} (g : Grid A) (p t : ℕ) where
   -- the same one twice: the later stays
@@ -31,12 +30,3 @@ module _ {A : Type 0} (g : Grid A) (p t : ℕ) where
     pub put-other : put (put g p t z) a b y ≡ put (put g a b y) p t z
     unfolding put
     put-other = fun-ext (λ x. fun-ext (λ u. either x u (eqb x p && eqb u t) refl (eqb x a && eqb u b) refl))
-
--- the amounts of a table with one holding written
-pub amounts-put : {Q R : Type 0} (m : Measure Q R) (g : Grid Q) (p t : ℕ) (q : Q) → amounts m (put g p t q) ≡ put (amounts m g) p t (m .amount q)
-unfolding amounts put
-amounts-put m g p t q = fun-ext (λ x. fun-ext (λ u. at x u (eqb x p && eqb u t)))
-  where
-    at : (x u : ℕ) (b : Bool) → m .amount (cond b q (g x u)) ≡ cond b (m .amount q) (m .amount (g x u))
-    at x u true = refl
-    at x u false = refl

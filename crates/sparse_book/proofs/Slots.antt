@@ -16,7 +16,6 @@ use Rattle.book.specs.Grid.{Grid, inRange, put, amounts, taken}
 use Rattle.book.proofs.Grids.{put-here, put-there, put-same}
 use Rattle.sparse_book.specs.declared.record.Record.{Record}
 use Rattle.sparse_book.specs.Records.{Slot, keyed, vacant, firstAt, mentions, apart, recordsHeld, vacancies, slotTold, toldAt}
-use Rattle.sparse_book.proofs.Grids.{put-again, put-other, amounts-put}
 
 -- the parts of a record's being apart
 pub apart-parts : {R : Type 0} (r : Record R) (ss : List (Slot R)) → apart (Some r ∷ ss) ≡ true → (inRange (r .provider) (r .quarter) ≡ true) × (mentions (r .provider) (r .quarter) ss ≡ false) × (apart ss ≡ true)

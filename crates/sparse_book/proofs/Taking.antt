@@ -16,7 +16,7 @@ use Rattle.quantity.specs.Measure.{Measure, isZero}
 use Rattle.book.specs.Grid.{Grid, inRange, put, amounts}
 use Rattle.sparse_book.specs.declared.record.Record.{Record}
 use Rattle.sparse_book.specs.Records.{Slot, keyed, vacant, mentions, apart, recordsHeld, released}
-use Rattle.sparse_book.proofs.Grids.{amounts-put}
+use Rattle.book.proofs.Changes.{amounts-put}
 use Rattle.sparse_book.proofs.Slots.{apart-parts, apart-from, unmentioned, key-turned}
 use Rattle.sparse_book.proofs.Freeing.{mentions-set, held-amounts, unheld, under}
 

@@ -1,0 +1,9 @@
+mod Firsts
+mod Lefts
+mod Alike
+mod Spanned
+mod Steps
+mod Refusals
+mod Whole
+mod Moving
+mod MoveWhole
