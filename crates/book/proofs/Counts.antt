@@ -94,11 +94,11 @@ module _ {Q R : Type 0} (m : Measure Q R) (held : Grid Q) where
   pub taken-put : (p t : ℕ) → p < 32 → t < 100 → (q : Q) → taken m (put held p t q) + filled m held p t ≡ taken m held + cond (isZero m q) 0 1
   unfolding taken
   taken-put p t hp ht q =
-      omega
-      ( arith
-      , total-put (λ x. total (filled m (put held p t q) x) 100) (λ x. total (filled m held x) 100) p (λ x n. total-alike (filled m (put held p t q) x) (filled m held x) 100 (λ u _. other x u (λ i _. n i))) 32 hp
-      , total-put (filled m (put held p t q) p) (filled m held p) t (λ u n. other p u (λ _ j. n j)) 100 ht
-      , ap {B = ℕ} (λ b. cond b 0 1) (ap (isZero m) (put-here held p t q))
+      omega (
+        arith,
+        total-put (λ x. total (filled m (put held p t q) x) 100) (λ x. total (filled m held x) 100) p (λ x n. total-alike (filled m (put held p t q) x) (filled m held x) 100 (λ u _. other x u (λ i _. n i))) 32 hp,
+        total-put (filled m (put held p t q) p) (filled m held p) t (λ u n. other p u (λ _ j. n j)) 100 ht,
+        ap {B = ℕ} (λ b. cond b 0 1) (ap (isZero m) (put-here held p t q)),
       )
     where
       other : (x u : ℕ) → (x ≡ p → u ≡ t → ⊥) → filled m (put held p t q) x u ≡ filled m held x u

@@ -12,6 +12,7 @@ use quantity::fcr::Volume;
 use quantity::fcr::laws::VolumeQuantity;
 use quantity::fcr::laws::VolumeReserve;
 use script::calls::Answer;
+use script::calls::Call;
 use script::malformed::Malformed;
 use script::malformed::MalformedDisplay;
 use script::perform::perform;
@@ -24,6 +25,7 @@ use script::settings::Bottom;
 use script::settings::Line;
 use script::settings::Service;
 use script::settings::Setting;
+use span_moves::refusal::SpanRefusalDisplay;
 use sparse_book::stored::StoredSparseBook;
 use sparse_book::stored::calls::StoredSparseIsBook;
 use std::error::AnyError;
@@ -45,30 +47,44 @@ struct Choice {
     limits: LimitTable,
 }
 
-fn show_malformed(rt: &LibcRuntime, place: usize, what: Malformed, tally: &mut Tally) -> Result<(), AnyError> {
+fn show_malformed(
+    rt: &LibcRuntime,
+    place: usize,
+    what: Malformed,
+    tally: &mut Tally,
+) -> Result<(), AnyError> {
     let number = place.saturating_add(1);
     tally.not_understood = tally.not_understood.saturating_add(1);
     println!(rt, "line {number}: {what}")?;
     Ok(())
 }
 
-fn show_answer<Q: Written>(rt: &LibcRuntime, answer: Answer<Q>, tally: &mut Tally) -> Result<(), AnyError> {
-    if let Answer::Refused(refusal) = answer {
-        tally.refused = tally.refused.saturating_add(1);
-        println!(rt, "refused {refusal}")?;
-        return Ok(());
-    }
-    tally.taken = tally.taken.saturating_add(1);
+fn show_answer<Q: Written>(
+    rt: &LibcRuntime,
+    answer: Answer<Q>,
+    tally: &mut Tally,
+) -> Result<(), AnyError> {
     match answer {
+        Answer::Refused(refusal) => {
+            tally.refused = tally.refused.saturating_add(1);
+            println!(rt, "refused {refusal}")?;
+            return Ok(());
+        }
+        Answer::NotMoved(refusal) => {
+            tally.refused = tally.refused.saturating_add(1);
+            println!(rt, "refused {refusal}")?;
+            return Ok(());
+        }
         Answer::Raised => println!(rt, "raised")?,
         Answer::Lowered => println!(rt, "lowered")?,
+        Answer::Moved => println!(rt, "moved")?,
         Answer::Held(quantity) => {
             let text = quantity.text(rt.alloc())?;
             println!(rt, "holding {text}")?;
         }
         Answer::FreePlaces(places) => println!(rt, "free {places}")?,
-        Answer::Refused(_) => {}
     }
+    tally.taken = tally.taken.saturating_add(1);
     Ok(())
 }
 
@@ -86,12 +102,21 @@ fn show_choice(rt: &LibcRuntime, setting: Setting) -> Result<(), AnyError> {
 }
 
 // Takes a setting, or refuses a limit of a provider that there is not.
-fn choose(rt: &LibcRuntime, setting: Setting, choice: &mut Choice, tally: &mut Tally) -> Result<(), AnyError> {
+fn choose(
+    rt: &LibcRuntime,
+    setting: Setting,
+    choice: &mut Choice,
+    tally: &mut Tally,
+) -> Result<(), AnyError> {
     match setting {
         Setting::Service(service) => choice.service = Some(service),
         Setting::Books(bottom) => choice.bottom = bottom,
         Setting::Limits(limited) => choice.limited = limited,
-        Setting::Limit { provider, direction, tenths } => {
+        Setting::Limit {
+            provider,
+            direction,
+            tenths,
+        } => {
             if choice.limits.set(provider, direction, tenths).is_err() {
                 tally.refused = tally.refused.saturating_add(1);
                 println!(rt, "refused 4")?;
@@ -113,8 +138,31 @@ fn early_fault(choice: &Choice, setting: Setting) -> Option<Malformed> {
     }
 }
 
+// What is wrong with a call, if it cannot be read in this service.
+fn call_fault<Q: Written>(line: &str) -> Option<Malformed> {
+    let call: Result<Call<Q>, Malformed> = read_call(line);
+    match call {
+        Ok(_) => None,
+        Err(what) => Some(what),
+    }
+}
+
+// What is wrong with the first call, if anything is: no service is chosen yet, or it cannot be read.
+fn first_fault(choice: &Choice, line: &str) -> Option<Malformed> {
+    match choice.service {
+        None => Some(Malformed::ServiceFirst),
+        Some(Service::Fcr) => call_fault::<Volume>(line),
+        Some(Service::Afrr) => call_fault::<Band>(line),
+    }
+}
+
 // Takes the settings of a script up to its first call, and tells that call's place.
-fn settle_choice(rt: &LibcRuntime, text: &str, choice: &mut Choice, tally: &mut Tally) -> Result<Option<(Service, usize)>, AnyError> {
+fn settle_choice(
+    rt: &LibcRuntime,
+    text: &str,
+    choice: &mut Choice,
+    tally: &mut Tally,
+) -> Result<Option<usize>, AnyError> {
     for (place, line) in text.lines().enumerate() {
         match read_line(line) {
             Ok(Line::Blank) => {}
@@ -122,9 +170,9 @@ fn settle_choice(rt: &LibcRuntime, text: &str, choice: &mut Choice, tally: &mut 
                 None => choose(rt, setting, choice, tally)?,
                 Some(what) => show_malformed(rt, place, what, tally)?,
             },
-            Ok(Line::Call) => match choice.service {
-                Some(service) => return Ok(Some((service, place))),
-                None => show_malformed(rt, place, Malformed::ServiceFirst, tally)?,
+            Ok(Line::Call) => match first_fault(choice, line) {
+                None => return Ok(Some(place)),
+                Some(what) => show_malformed(rt, place, what, tally)?,
             },
             Err(what) => show_malformed(rt, place, what, tally)?,
         }
@@ -143,7 +191,13 @@ fn late_fault(setting: Setting) -> Option<Malformed> {
 }
 
 // Makes the call of a line.
-fn run_call<B: Book>(rt: &LibcRuntime, place: usize, line: &str, book: &mut B, tally: &mut Tally) -> Result<(), AnyError>
+fn run_call<B: Book>(
+    rt: &LibcRuntime,
+    place: usize,
+    line: &str,
+    book: &mut B,
+    tally: &mut Tally,
+) -> Result<(), AnyError>
 where
     B::Q: Written,
 {
@@ -154,7 +208,14 @@ where
 }
 
 // Makes the calls of the lines from a place on.
-fn run_calls<B: Book>(rt: &LibcRuntime, text: &str, from: usize, book: &mut B, choice: &mut Choice, tally: &mut Tally) -> Result<(), AnyError>
+fn run_calls<B: Book>(
+    rt: &LibcRuntime,
+    text: &str,
+    from: usize,
+    book: &mut B,
+    choice: &mut Choice,
+    tally: &mut Tally,
+) -> Result<(), AnyError>
 where
     B::Q: Written,
 {
@@ -173,7 +234,13 @@ where
 }
 
 // Makes the chosen pile of books and runs the calls over it.
-fn run_pile<K: Written>(rt: &LibcRuntime, text: &str, from: usize, choice: &mut Choice, tally: &mut Tally) -> Result<(), AnyError> {
+fn run_pile<K: Written>(
+    rt: &LibcRuntime,
+    text: &str,
+    from: usize,
+    choice: &mut Choice,
+    tally: &mut Tally,
+) -> Result<(), AnyError> {
     match (choice.bottom, choice.limited) {
         (Bottom::Full, false) => {
             let mut book: StoredFullBook<K> = StoredFullBook::new(rt.alloc())?;
@@ -185,11 +252,17 @@ fn run_pile<K: Written>(rt: &LibcRuntime, text: &str, from: usize, choice: &mut 
             run_calls(rt, text, from, &mut book, choice, tally)
         }
         (Bottom::Sparse(places), false) => {
-            let mut book: StoredSparseBook<K> = StoredSparseBook::new(rt.alloc(), usize::from(places))?;
+            let mut book: StoredSparseBook<K> = StoredSparseBook::new(
+                rt.alloc(),
+                usize::from(places),
+            )?;
             run_calls(rt, text, from, &mut book, choice, tally)
         }
         (Bottom::Sparse(places), true) => {
-            let below: StoredSparseBook<K> = StoredSparseBook::new(rt.alloc(), usize::from(places))?;
+            let below: StoredSparseBook<K> = StoredSparseBook::new(
+                rt.alloc(),
+                usize::from(places),
+            )?;
             let mut book = LimitLayer::new(below, choice.limits);
             run_calls(rt, text, from, &mut book, choice, tally)
         }
@@ -198,14 +271,32 @@ fn run_pile<K: Written>(rt: &LibcRuntime, text: &str, from: usize, choice: &mut 
 
 /// Runs a script over the books that it chooses, prints what each call answers, and sums up.
 pub fn run_script(rt: &LibcRuntime, text: &str) -> Result<Tally, AnyError> {
-    let mut tally = Tally { taken: 0, refused: 0, not_understood: 0 };
-    let mut choice = Choice { service: None, bottom: Bottom::Full, limited: false, limits: LimitTable::new() };
-    match settle_choice(rt, text, &mut choice, &mut tally)? {
-        Some((Service::Fcr, from)) => run_pile::<Volume>(rt, text, from, &mut choice, &mut tally)?,
-        Some((Service::Afrr, from)) => run_pile::<Band>(rt, text, from, &mut choice, &mut tally)?,
-        None => {}
+    let mut tally = Tally {
+        taken: 0,
+        refused: 0,
+        not_understood: 0,
+    };
+    let mut choice = Choice {
+        service: None,
+        bottom: Bottom::Full,
+        limited: false,
+        limits: LimitTable::new(),
+    };
+    if let Some(from) = settle_choice(rt, text, &mut choice, &mut tally)? {
+        match choice.service {
+            Some(Service::Fcr) => run_pile::<Volume>(rt, text, from, &mut choice, &mut tally)?,
+            Some(Service::Afrr) => run_pile::<Band>(rt, text, from, &mut choice, &mut tally)?,
+            None => {}
+        }
     }
-    let Tally { taken, refused, not_understood } = tally;
-    println!(rt, "taken {taken} refused {refused} not understood {not_understood}")?;
+    let Tally {
+        taken,
+        refused,
+        not_understood,
+    } = tally;
+    println!(
+        rt,
+        "taken {taken} refused {refused} not understood {not_understood}"
+    )?;
     Ok(tally)
 }

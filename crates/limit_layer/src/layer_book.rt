@@ -17,10 +17,16 @@ fn within_limits(limits: &LimitTable, layer: u8, provider: u8, up: u16, down: u1
     ensures { λ r. ⌜ r ≡ within layer (limitAt (now (limits .entry)) provider 0) (limitAt (now (limits .entry)) provider 1) up down ⌝ }
 {
     if u32::from(up) > limits.limit(provider, Direction::Up) {
-        return Admission::No(Cause::Limit { layer, direction: Direction::Up });
+        return Admission::No(Cause::Limit {
+            layer,
+            direction: Direction::Up,
+        });
     }
     if u32::from(down) > limits.limit(provider, Direction::Down) {
-        return Admission::No(Cause::Limit { layer, direction: Direction::Down });
+        return Admission::No(Cause::Limit {
+            layer,
+            direction: Direction::Down,
+        });
     }
     Admission::Yes
 }
@@ -55,7 +61,13 @@ where
         }
         match below {
             Admission::No(cause) => Admission::No(cause),
-            Admission::Yes => within_limits(&self.limits, self.layer(), provider, quantity.tenths(Direction::Up), quantity.tenths(Direction::Down)),
+            Admission::Yes => within_limits(
+                &self.limits,
+                self.layer(),
+                provider,
+                quantity.tenths(Direction::Up),
+                quantity.tenths(Direction::Down),
+            ),
         }
     }
 

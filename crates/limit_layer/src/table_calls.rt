@@ -12,11 +12,19 @@ impl LimitTable {
     pub fn new() -> LimitTable
         ensures { λ r. ⌜ ((p d : ℕ) → limitAt r p d ≡ 0) ⌝ }
     {
-        LimitTable { up: [0; 32], down: [0; 32] }
+        LimitTable {
+            up: [0; 32],
+            down: [0; 32],
+        }
     }
 
     /// Sets a limit, or changes nothing for a provider above 31.
-    pub fn set(&mut self, provider: u8, direction: Direction, tenths: u32) -> Result<(), LimitRefusal>
+    pub fn set(
+        &mut self,
+        provider: u8,
+        direction: Direction,
+        tenths: u32,
+    ) -> Result<(), LimitRefusal>
         ensures answer { λ r. ⌜ refusal-number (errPart r) ≡ refusal-number (set-refusal provider) ⌝ }
         ensures after { λ _. ⌜ ((p d : ℕ) → limitAt (now (self .exit)) p d ≡ afterSet (limitAt (now (self .entry))) provider (number direction) tenths p d) ⌝ }
     {

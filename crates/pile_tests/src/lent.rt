@@ -34,7 +34,11 @@ fn tenths(n: u16) -> Volume {
 // Raises a whole record, fills and frees the others, in any book of sixteen places.
 #[test]
 fn sixteen_records_freed_and_used_again() -> Result<(), Fail> {
-    let mut slots: [Option<Record<u16>>; 16] = [Some(Record { provider: 1, quarter: 1, row: 7 }); 16];
+    let mut slots: [Option<Record<u16>>; 16] = [Some(Record {
+        provider: 1,
+        quarter: 1,
+        row: 7,
+    }); 16];
     let mut book: SparseBook<Volume> = SparseBook::blank(&mut slots);
     check_eq(book.holding(1, 1).up(), 0)?;
     check_eq(book.free(), 16)?;
@@ -50,9 +54,30 @@ fn sixteen_records_freed_and_used_again() -> Result<(), Fail> {
     check(book.raise(6, 60, tenths(2)).is_ok())?;
     check_eq(book.free(), 0)?;
     // the first free record is taken first
-    check_eq(slots[4], Some(Record { provider: 5, quarter: 50, row: 1 }))?;
-    check_eq(slots[9], Some(Record { provider: 6, quarter: 60, row: 2 }))?;
-    check_eq(slots[3], Some(Record { provider: 0, quarter: 3, row: 10 }))
+    check_eq(
+        slots[4],
+        Some(Record {
+            provider: 5,
+            quarter: 50,
+            row: 1,
+        }),
+    )?;
+    check_eq(
+        slots[9],
+        Some(Record {
+            provider: 6,
+            quarter: 60,
+            row: 2,
+        }),
+    )?;
+    check_eq(
+        slots[3],
+        Some(Record {
+            provider: 0,
+            quarter: 3,
+            row: 10,
+        }),
+    )
 }
 
 #[test]
@@ -74,14 +99,23 @@ fn limits_hold<B: Book<Q = Volume> + Drop>(below: B) -> Result<(), Fail> {
     let mut book = LimitLayer::new(below, limits);
     check_eq(book.layer(), 1)?;
     check_eq(book.admits(3, 7, tenths(100)), Admission::Yes)?;
-    let above = Cause::Limit { layer: 1, direction: Direction::Up };
+    let above = Cause::Limit {
+        layer: 1,
+        direction: Direction::Up,
+    };
     check_eq(book.admits(3, 7, tenths(101)), Admission::No(above))?;
     check_eq(book.admits(4, 7, tenths(1)), Admission::No(above))?;
     check_eq(book.admits(40, 7, tenths(1)), Admission::Yes)?;
     check(book.raise(3, 7, tenths(60)).is_ok())?;
     check(book.raise(3, 7, tenths(40)).is_ok())?;
-    check_eq(book.raise(3, 7, tenths(1)), Err(BookRefusal::NotAdmitted(above)))?;
-    check_eq(book.raise(3, 7, tenths(10000)), Err(BookRefusal::SumDoesNotFit))?;
+    check_eq(
+        book.raise(3, 7, tenths(1)),
+        Err(BookRefusal::NotAdmitted(above)),
+    )?;
+    check_eq(
+        book.raise(3, 7, tenths(10000)),
+        Err(BookRefusal::SumDoesNotFit),
+    )?;
     check_eq(book.holding(3, 7).up(), 100)?;
     check(book.lower(3, 7, tenths(100)).is_ok())?;
     check_eq(book.holding(3, 7).up(), 0)
@@ -95,10 +129,22 @@ fn lower_layer_first<B: Book<Q = Volume> + Drop>(below: B) -> Result<(), Fail> {
     check(narrow.set(3, Direction::Up, 50).is_ok())?;
     let mut book = LimitLayer::new(LimitLayer::new(below, wide), narrow);
     check_eq(book.layer(), 2)?;
-    let lower = Cause::Limit { layer: 1, direction: Direction::Up };
-    let upper = Cause::Limit { layer: 2, direction: Direction::Up };
-    check_eq(book.raise(3, 0, tenths(101)), Err(BookRefusal::NotAdmitted(lower)))?;
-    check_eq(book.raise(3, 0, tenths(51)), Err(BookRefusal::NotAdmitted(upper)))?;
+    let lower = Cause::Limit {
+        layer: 1,
+        direction: Direction::Up,
+    };
+    let upper = Cause::Limit {
+        layer: 2,
+        direction: Direction::Up,
+    };
+    check_eq(
+        book.raise(3, 0, tenths(101)),
+        Err(BookRefusal::NotAdmitted(lower)),
+    )?;
+    check_eq(
+        book.raise(3, 0, tenths(51)),
+        Err(BookRefusal::NotAdmitted(upper)),
+    )?;
     check(book.raise(3, 0, tenths(50)).is_ok())
 }
 

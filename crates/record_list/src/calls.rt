@@ -65,7 +65,11 @@ impl<'a, E: Copy> RecordList<'a, E> {
         ensures { λ r. ⌜ r ≡ nth (contents (now (self .entry))) i ⌝ }
     {
         let entries = self.entries();
-        if i < entries.len() { Some(entries[i]) } else { None }
+        if i < entries.len() {
+            Some(entries[i])
+        } else {
+            None
+        }
     }
 
     /// Puts `e` in the place of an entry, and says whether there is one.

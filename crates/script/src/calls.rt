@@ -1,11 +1,30 @@
 use book::answers::BookRefusal;
+use span_moves::refusal::SpanRefusal;
 
 /// A call of a book.
 #[derive(Clone, Copy)]
 pub enum Call<Q> {
-    Raise { provider: u8, quarter: u8, quantity: Q },
-    Lower { provider: u8, quarter: u8, quantity: Q },
-    Holding { provider: u8, quarter: u8 },
+    Raise {
+        provider: u8,
+        quarter: u8,
+        quantity: Q,
+    },
+    Lower {
+        provider: u8,
+        quarter: u8,
+        quantity: Q,
+    },
+    Move {
+        giver: u8,
+        taker: u8,
+        first: u8,
+        last: u8,
+        quantity: Q,
+    },
+    Holding {
+        provider: u8,
+        quarter: u8,
+    },
     Free,
 }
 
@@ -14,7 +33,9 @@ pub enum Call<Q> {
 pub enum Answer<Q> {
     Raised,
     Lowered,
+    Moved,
     Held(Q),
     FreePlaces(usize),
     Refused(BookRefusal),
+    NotMoved(SpanRefusal),
 }

@@ -46,7 +46,11 @@ fn read_limit(words: &mut SplitWhitespace<'_>) -> Result<Setting, Malformed> {
         _ => return Err(Malformed::UnknownDirection),
     };
     let tenths = limit(next_word(words)?)?;
-    Ok(Setting::Limit { provider, direction, tenths })
+    Ok(Setting::Limit {
+        provider,
+        direction,
+        tenths,
+    })
 }
 
 /// What a line is, or what is wrong with it; a call is not read yet.
@@ -58,7 +62,9 @@ pub fn read_line(line: &str) -> Result<Line, Malformed> {
         Some("books") => read_books(&mut words)?,
         Some("limits") => read_limits(&mut words)?,
         Some("limit") => read_limit(&mut words)?,
-        Some("raise") | Some("lower") | Some("holding") | Some("free") => return Ok(Line::Call),
+        Some("raise") | Some("lower") | Some("move") | Some("holding") | Some("free") => return Ok(
+            Line::Call,
+        ),
         Some(_) => return Err(Malformed::UnknownWord),
     };
     no_more(&mut words)?;
@@ -77,11 +83,33 @@ fn read_words<Q: Written>(words: &mut SplitWhitespace<'_>) -> Result<Call<Q>, Ma
     match next_word(words)? {
         "raise" => {
             let (provider, quarter, quantity) = read_change(words)?;
-            Ok(Call::Raise { provider, quarter, quantity })
+            Ok(Call::Raise {
+                provider,
+                quarter,
+                quantity,
+            })
         }
         "lower" => {
             let (provider, quarter, quantity) = read_change(words)?;
-            Ok(Call::Lower { provider, quarter, quantity })
+            Ok(Call::Lower {
+                provider,
+                quarter,
+                quantity,
+            })
+        }
+        "move" => {
+            let giver = small(next_word(words)?)?;
+            let taker = small(next_word(words)?)?;
+            let first = small(next_word(words)?)?;
+            let last = small(next_word(words)?)?;
+            let quantity = Q::read(next_word(words)?)?;
+            Ok(Call::Move {
+                giver,
+                taker,
+                first,
+                last,
+                quantity,
+            })
         }
         "holding" => {
             let provider = small(next_word(words)?)?;

@@ -20,7 +20,11 @@ pub enum Setting {
     Service(Service),
     Books(Bottom),
     Limits(bool),
-    Limit { provider: u8, direction: Direction, tenths: u32 },
+    Limit {
+        provider: u8,
+        direction: Direction,
+        tenths: u32,
+    },
 }
 
 /// What a line is: blank, a setting, or a call of a book, which is read once the service is known.

@@ -33,10 +33,9 @@ left-alike was will was′ will′ free lo (suc n) e f =
     ∙ ap (andLeft (was′ (lo + n)) (will′ (lo + n))) (left-alike was will was′ will′ free lo n (λ k h. e k (omega arith)) (λ k h. f k (omega arith))))
 
 module _ {Q R : Type 0} (m : Measure Q R) (held held1 : Grid Q) (giver taker : ℕ) (q : Q) (first last : ℕ) (apart : giver ≡ taker → ⊥)
-  (lowered : amounts m held1 ≡ spanned m held Lowering giver q first (last + 1))
-  (gives : (t : ℕ) → first ≤ t → t ≤ last → isSome (next m Lowering (held giver t) q) ≡ true)
-  (takes : (t : ℕ) → first ≤ t → t ≤ last → isSome (next m Raising (held taker t) q) ≡ true) where
-
+    (lowered : amounts m held1 ≡ spanned m held Lowering giver q first (last + 1))
+    (gives : (t : ℕ) → first ≤ t → t ≤ last → isSome (next m Lowering (held giver t) q) ≡ true)
+    (takes : (t : ℕ) → first ≤ t → t ≤ last → isSome (next m Raising (held taker t) q) ≡ true) where
   -- the lowering leaves the taker's holdings
   other-tests : (u : ℕ) → within giver first (last + 1) taker u ≡ false
   other-tests u = and-left (eqb taker giver) (leb first u && ltb u (last + 1)) (ne-eqb taker giver (λ e. apart (sym e)))

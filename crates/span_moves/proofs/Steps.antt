@@ -99,7 +99,7 @@ module _ {Q R : Type 0} (m : Measure Q R) (held0 : Grid Q) (places : ℕ) (admis
   some-left =
       ap isSome (sym next-left)
       ∙ left-before (λ x. isZero m (held0 p x)) (λ x. isZero m (becomes m held0 change p q x)) (Some (places - taken m held0)) lo ((t - lo) + 1) (last - t)
-        (ap (λ n. isSome (leftAfter m held0 change p q (Some (places - taken m held0)) lo n)) (let w : ((t - lo) + 1) + (last - t) ≡ count lo last = omega arith in w) ∙ ready .room)
+      (ap (λ n. isSome (leftAfter m held0 change p q (Some (places - taken m held0)) lo n)) (let w : ((t - lo) + 1) + (last - t) ≡ count lo last = omega arith in w) ∙ ready .room)
 
   put-is : changedOne m held places admission change p t q ≡ put (amounts m held) p t (m .amount c)
   put-is = welcome-to m held places admission p t q c inside (room-step (isZero m (held p t)) (isZero m c) places (taken m held) (places - taken m held) bound refl some-left) held0 d change (ready .welcome t l h) (old-next .1) (new-next .2) (new-next .1)

@@ -28,7 +28,7 @@ module _ {Q R : Type 0} (m : Measure Q R) (held : Grid Q) (places : ℕ) (admiss
   unfoldable pub span-refusal : Change → ℕ → ℕ → ℕ → Q → Option SpanRefusal
   span-refusal change p first last q =
       firstSome
-      ( no-provider p
+      (no-provider p
       ∷ (no-span first last
       ∷ (firstOf (unfit m held change p q) first (count first last)
       ∷ (firstOf (unwelcome change p q) first (count first last)
@@ -43,7 +43,7 @@ module _ {Q R : Type 0} (m : Measure Q R) (held : Grid Q) (places : ℕ) (admiss
   unfoldable pub move-refusal : ℕ → ℕ → ℕ → ℕ → Q → Option SpanRefusal
   move-refusal giver taker first last q =
       firstSome
-      ( no-provider giver
+      (no-provider giver
       ∷ (no-provider taker
       ∷ (no-span first last
       ∷ (one-provider giver taker
@@ -57,8 +57,8 @@ module _ {Q R : Type 0} (m : Measure Q R) (held : Grid Q) (places : ℕ) (admiss
   unfoldable pub moved : ℕ → ℕ → Q → ℕ → ℕ → Grid (m .Amount)
   moved giver taker q lo hi =
       λ x u.
-        cond (eqb x giver && (leb lo u && ltb u hi)) (m .amount (becomes m held Lowering giver q u))
-        (cond (eqb x taker && (leb lo u && ltb u hi)) (m .amount (becomes m held Raising taker q u)) (m .amount (held x u)))
+      cond (eqb x giver && (leb lo u && ltb u hi)) (m .amount (becomes m held Lowering giver q u))
+      (cond (eqb x taker && (leb lo u && ltb u hi)) (m .amount (becomes m held Raising taker q u)) (m .amount (held x u)))
 
   -- the amounts after a span is moved
   unfoldable pub move-after : ℕ → ℕ → ℕ → ℕ → Q → Grid (m .Amount)

@@ -26,7 +26,14 @@ fn apply_one<B: Book>(book: &mut B, change: Change, provider: u8, quarter: u8, q
 }
 
 /// Changes every holding of a span of which all are known to be changeable.
-pub fn apply_span<B: Book>(book: &mut B, change: Change, provider: u8, first: u8, last: u8, quantity: B::Q)
+pub fn apply_span<B: Book>(
+    book: &mut B,
+    change: Change,
+    provider: u8,
+    first: u8,
+    last: u8,
+    quantity: B::Q,
+)
     requires { ⌜ Ready (Q·Quantity .measure) (B·Book .holdings (now book)) (B·Book .places (now book)) (B·Book .admission (now book)) change provider first last quantity ⌝ }
     ensures after { λ _. ⌜ amounts (Q·Quantity .measure) (B·Book .holdings (now (book .exit))) ≡ spanned (Q·Quantity .measure) (B·Book .holdings (now (book .entry))) change provider quantity first (last + 1) ⌝ }
     ensures left { λ _. ⌜ leftAfter (Q·Quantity .measure) (B·Book .holdings (now (book .entry))) change provider quantity (Some (B·Book .places (now (book .entry)) - taken (Q·Quantity .measure) (B·Book .holdings (now (book .entry))))) first (count first last) ≡ Some (B·Book .places (now (book .entry)) - taken (Q·Quantity .measure) (B·Book .holdings (now (book .exit)))) ⌝ }

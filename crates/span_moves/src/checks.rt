@@ -15,7 +15,14 @@ use book::interface::Book;
 use quantity::interface::Quantity;
 
 /// Refuses the first quarter of the span in which the changed holding does not fit.
-pub fn check_fits<B: Book>(book: &B, change: Change, provider: u8, first: u8, last: u8, quantity: B::Q) -> Result<(), SpanRefusal>
+pub fn check_fits<B: Book>(
+    book: &B,
+    change: Change,
+    provider: u8,
+    first: u8,
+    last: u8,
+    quantity: B::Q,
+) -> Result<(), SpanRefusal>
     requires { ⌜ (provider < 32) × (first ≤ last) × (last < 100) ⌝ }
     ensures { λ r. ⌜ errPart r ≡ firstOf (unfit (Q·Quantity .measure) (B·Book .holdings (now (book .entry))) change provider quantity) first (count first last) ⌝ }
 {
@@ -29,7 +36,13 @@ pub fn check_fits<B: Book>(book: &B, change: Change, provider: u8, first: u8, la
 }
 
 /// Refuses the first quarter of the span in which the raised holding is not admitted.
-pub fn check_admitted<B: Book>(book: &B, provider: u8, first: u8, last: u8, quantity: B::Q) -> Result<(), SpanRefusal>
+pub fn check_admitted<B: Book>(
+    book: &B,
+    provider: u8,
+    first: u8,
+    last: u8,
+    quantity: B::Q,
+) -> Result<(), SpanRefusal>
     requires { ⌜ (provider < 32) × (first ≤ last) × (last < 100) ⌝ }
     ensures value { λ r. ⌜ span-number (errPart r) ≡ span-number (firstOf (unadmitted (Q·Quantity .measure) (B·Book .holdings (now (book .entry))) (B·Book .admission (now (book .entry))) provider quantity) first (count first last)) ⌝ }
     ensures alike { λ r. ⌜ made r (λ _. (t : ℕ) → first ≤ t → t ≤ last → (s other : B·Q) → Q·Quantity .measure .joined (B·Book .holdings (now (book .entry)) provider t) quantity ≡ Some s → Q·Quantity .measure .amount other ≡ Q·Quantity .measure .amount s → B·Book .admission (now (book .entry)) provider t other ≡ Yes) ⌝ }
@@ -37,7 +50,11 @@ pub fn check_admitted<B: Book>(book: &B, provider: u8, first: u8, last: u8, quan
     for quarter in first..last + 1 {
         if let Some(sum) = book.holding(provider, quarter).join(quantity) {
             if let Admission::No(cause) = book.admits(provider, quarter, sum) {
-                return Err(SpanRefusal::NotAdmitted { provider, quarter, cause });
+                return Err(SpanRefusal::NotAdmitted {
+                    provider,
+                    quarter,
+                    cause,
+                });
             }
         }
     }
@@ -64,7 +81,15 @@ fn after_step(free: u128, was_zero: bool, will_be_zero: bool) -> Option<u128>
 
 /// How many places are free after the change of each quarter, by rising quarter; none where a place is wanting.
 /// A count of 128 bits cannot overflow, however many places a book has.
-pub fn count_places<B: Book>(book: &B, change: Change, provider: u8, first: u8, last: u8, quantity: B::Q, free: u128) -> Option<u128>
+pub fn count_places<B: Book>(
+    book: &B,
+    change: Change,
+    provider: u8,
+    first: u8,
+    last: u8,
+    quantity: B::Q,
+    free: u128,
+) -> Option<u128>
     requires { ⌜ (provider < 32) × (first ≤ last) × (last < 100) × (free < 2 ^ 65) ⌝ }
     ensures { λ r. ⌜ r ≡ leftAfter (Q·Quantity .measure) (B·Book .holdings (now (book .entry))) change provider quantity (Some free) first (count first last) ⌝ }
 {

@@ -19,7 +19,14 @@ use book::interface::Book;
 use quantity::interface::Quantity;
 
 // Only what is raised has to be admitted.
-fn check_welcome<B: Book>(book: &B, change: Change, provider: u8, first: u8, last: u8, quantity: B::Q) -> Result<(), SpanRefusal>
+fn check_welcome<B: Book>(
+    book: &B,
+    change: Change,
+    provider: u8,
+    first: u8,
+    last: u8,
+    quantity: B::Q,
+) -> Result<(), SpanRefusal>
     requires { ⌜ (provider < 32) × (first ≤ last) × (last < 100) ⌝ }
     ensures value { λ r. ⌜ span-number (errPart r) ≡ span-number (firstOf (unwelcome (Q·Quantity .measure) (B·Book .holdings (now (book .entry))) (B·Book .places (now (book .entry))) (B·Book .admission (now (book .entry))) change provider quantity) first (count first last)) ⌝ }
     ensures welcome { λ r. ⌜ made r (λ _. (t : ℕ) → first ≤ t → t ≤ last → Welcome (Q·Quantity .measure) (B·Book .holdings (now (book .entry))) (B·Book .places (now (book .entry))) (B·Book .admission (now (book .entry))) change provider quantity t) ⌝ }
@@ -31,7 +38,14 @@ fn check_welcome<B: Book>(book: &B, change: Change, provider: u8, first: u8, las
 }
 
 // Changes every holding of a span, or changes nothing and says why.
-fn change_span<B: Book>(book: &mut B, change: Change, provider: u8, first: u8, last: u8, quantity: B::Q) -> Result<(), SpanRefusal>
+fn change_span<B: Book>(
+    book: &mut B,
+    change: Change,
+    provider: u8,
+    first: u8,
+    last: u8,
+    quantity: B::Q,
+) -> Result<(), SpanRefusal>
     ensures answer { λ r. ⌜ span-number (errPart r) ≡ span-number (span-refusal (Q·Quantity .measure) (B·Book .holdings (now (book .entry))) (B·Book .places (now (book .entry))) (B·Book .admission (now (book .entry))) change provider first last quantity) ⌝ }
     ensures after { λ _. ⌜ amounts (Q·Quantity .measure) (B·Book .holdings (now (book .exit))) ≡ span-after (Q·Quantity .measure) (B·Book .holdings (now (book .entry))) (B·Book .places (now (book .entry))) (B·Book .admission (now (book .entry))) change provider first last quantity ⌝ }
     ensures places { λ _. ⌜ B·Book .places (now (book .exit)) ≡ B·Book .places (now (book .entry)) ⌝ }
@@ -59,7 +73,13 @@ fn change_span<B: Book>(book: &mut B, change: Change, provider: u8, first: u8, l
 }
 
 /// Raises every holding of a span by the quantity, or changes nothing and says why.
-pub fn raise_span<B: Book>(book: &mut B, provider: u8, first: u8, last: u8, quantity: B::Q) -> Result<(), SpanRefusal>
+pub fn raise_span<B: Book>(
+    book: &mut B,
+    provider: u8,
+    first: u8,
+    last: u8,
+    quantity: B::Q,
+) -> Result<(), SpanRefusal>
     ensures answer { λ r. ⌜ span-number (errPart r) ≡ span-number (span-refusal (Q·Quantity .measure) (B·Book .holdings (now (book .entry))) (B·Book .places (now (book .entry))) (B·Book .admission (now (book .entry))) Raising provider first last quantity) ⌝ }
     ensures after { λ _. ⌜ amounts (Q·Quantity .measure) (B·Book .holdings (now (book .exit))) ≡ span-after (Q·Quantity .measure) (B·Book .holdings (now (book .entry))) (B·Book .places (now (book .entry))) (B·Book .admission (now (book .entry))) Raising provider first last quantity ⌝ }
     ensures places { λ _. ⌜ B·Book .places (now (book .exit)) ≡ B·Book .places (now (book .entry)) ⌝ }
@@ -70,7 +90,13 @@ pub fn raise_span<B: Book>(book: &mut B, provider: u8, first: u8, last: u8, quan
 }
 
 /// Lowers every holding of a span by the quantity, or changes nothing and says why.
-pub fn lower_span<B: Book>(book: &mut B, provider: u8, first: u8, last: u8, quantity: B::Q) -> Result<(), SpanRefusal>
+pub fn lower_span<B: Book>(
+    book: &mut B,
+    provider: u8,
+    first: u8,
+    last: u8,
+    quantity: B::Q,
+) -> Result<(), SpanRefusal>
     ensures answer { λ r. ⌜ span-number (errPart r) ≡ span-number (span-refusal (Q·Quantity .measure) (B·Book .holdings (now (book .entry))) (B·Book .places (now (book .entry))) (B·Book .admission (now (book .entry))) Lowering provider first last quantity) ⌝ }
     ensures after { λ _. ⌜ amounts (Q·Quantity .measure) (B·Book .holdings (now (book .exit))) ≡ span-after (Q·Quantity .measure) (B·Book .holdings (now (book .entry))) (B·Book .places (now (book .entry))) (B·Book .admission (now (book .entry))) Lowering provider first last quantity ⌝ }
     ensures places { λ _. ⌜ B·Book .places (now (book .exit)) ≡ B·Book .places (now (book .entry)) ⌝ }
@@ -82,7 +108,14 @@ pub fn lower_span<B: Book>(book: &mut B, provider: u8, first: u8, last: u8, quan
 
 /// Moves the quantity from the giver to the taker in every quarter of a span, or changes nothing and says why.
 /// All lowerings come before all raisings.
-pub fn move_span<B: Book>(book: &mut B, giver: u8, taker: u8, first: u8, last: u8, quantity: B::Q) -> Result<(), SpanRefusal>
+pub fn move_span<B: Book>(
+    book: &mut B,
+    giver: u8,
+    taker: u8,
+    first: u8,
+    last: u8,
+    quantity: B::Q,
+) -> Result<(), SpanRefusal>
     ensures answer { λ r. ⌜ span-number (errPart r) ≡ span-number (move-refusal (Q·Quantity .measure) (B·Book .holdings (now (book .entry))) (B·Book .places (now (book .entry))) (B·Book .admission (now (book .entry))) giver taker first last quantity) ⌝ }
     ensures after { λ _. ⌜ amounts (Q·Quantity .measure) (B·Book .holdings (now (book .exit))) ≡ move-after (Q·Quantity .measure) (B·Book .holdings (now (book .entry))) (B·Book .places (now (book .entry))) (B·Book .admission (now (book .entry))) giver taker first last quantity ⌝ }
     ensures passed { λ r. ⌜ made r (λ _. Passed (Q·Quantity .measure) (amounts (Q·Quantity .measure) (B·Book .holdings (now (book .entry)))) (amounts (Q·Quantity .measure) (B·Book .holdings (now (book .exit)))) giver taker first last (Q·Quantity .measure .amount quantity)) ⌝ }
@@ -103,7 +136,8 @@ pub fn move_span<B: Book>(book: &mut B, giver: u8, taker: u8, first: u8, last: u
         return Err(barred);
     }
     let free = book.free() as u128;
-    let Some(lowered) = count_places(book, Change::Lowering, giver, first, last, quantity, free) else {
+    let Some(lowered) = count_places(book, Change::Lowering, giver, first, last, quantity, free)
+    else {
         return Err(SpanRefusal::NoFreePlace);
     };
     if count_places(book, Change::Raising, taker, first, last, quantity, lowered).is_none() {

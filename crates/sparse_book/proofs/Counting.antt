@@ -48,12 +48,12 @@ module _ {Q R : Type 0} (m : Measure Q R) where
       let w = apart-parts r ss e in
       let h = range-parts (r .provider) (r .quarter) (w .0) in
       let z : isZero m (recordsHeld m ss (r .provider) (r .quarter)) ≡ true = ap (isZero m) (held-unmentioned m (r .provider) (r .quarter) ss (w .1)) ∙ nothing-zero m in
-      omega
-      ( arith
-      , free-and-taken ss (w .2)
-      , taken-put m (recordsHeld m ss) (r .provider) (r .quarter) (h .0) (h .1) (m .told (r .row))
-      , ap {B = ℕ} (λ b. cond b 0 1) z
-      , slot-counts (isZero m (m .told (r .row)))
+      omega (
+        arith,
+        free-and-taken ss (w .2),
+        taken-put m (recordsHeld m ss) (r .provider) (r .quarter) (h .0) (h .1) (m .told (r .row)),
+        ap {B = ℕ} (λ b. cond b 0 1) z,
+        slot-counts (isZero m (m .told (r .row))),
       )
 
   -- a free slot is found exactly if there is one

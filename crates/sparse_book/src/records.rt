@@ -107,7 +107,11 @@ fn place_of<K: Quantity>(slots: &[Option<Record<K::Row>>], told: Option<usize>) 
     ensures { λ r. ⌜ r ≡ cond (isZero (K·Quantity .measure) (toldAt (K·Quantity .measure) (now (slots .entry)) told)) (firstAt (vacant (K·Quantity .measure)) (now (slots .entry))) told ⌝ }
 {
     let held: K = told_at(slots, told);
-    if held.equals(K::zero()) { first_vacant::<K>(slots) } else { told }
+    if held.equals(K::zero()) {
+        first_vacant::<K>(slots)
+    } else {
+        told
+    }
 }
 
 // Writes a slot.
@@ -129,7 +133,13 @@ fn release<R: Copy>(slots: &mut [Option<Record<R>>], place: Option<usize>)
 }
 
 // Makes a holding `new`, refuses as told where that is none, or where there is no free slot.
-fn change<K: Quantity>(slots: &mut [Option<Record<K::Row>>], provider: u8, quarter: u8, new: Option<K>, refusal: BookRefusal) -> Result<(), BookRefusal>
+fn change<K: Quantity>(
+    slots: &mut [Option<Record<K::Row>>],
+    provider: u8,
+    quarter: u8,
+    new: Option<K>,
+    refusal: BookRefusal,
+) -> Result<(), BookRefusal>
     requires { ⌜ inRange provider quarter ≡ true ⌝ ∗ ⌜ apart (now slots) ≡ true ⌝ }
     ensures answer { λ r. ⌜ errPart r ≡ change-refusal (K·Quantity .measure) (recordsHeld (K·Quantity .measure) (now (slots .entry))) (length (now (slots .entry))) refusal (everything provider quarter) provider quarter new ⌝ }
     ensures slots { λ r. ⌜ now (slots .exit) ≡ changedSlots (K·Quantity .measure) (now (slots .entry)) provider quarter (errPart r) new ⌝ }
@@ -150,12 +160,25 @@ fn change<K: Quantity>(slots: &mut [Option<Record<K::Row>>], provider: u8, quart
     };
     release(slots, told);
     let row = quantity.row();
-    write(slots, i, Some(Record { provider, quarter, row }));
+    write(
+        slots,
+        i,
+        Some(Record {
+            provider,
+            quarter,
+            row,
+        }),
+    );
     Ok(())
 }
 
 /// Replaces one holding by its sum with the quantity, or changes nothing and says why.
-pub(crate) fn raise<K: Quantity>(slots: &mut [Option<Record<K::Row>>], provider: u8, quarter: u8, quantity: K) -> Result<(), BookRefusal>
+pub(crate) fn raise<K: Quantity>(
+    slots: &mut [Option<Record<K::Row>>],
+    provider: u8,
+    quarter: u8,
+    quantity: K,
+) -> Result<(), BookRefusal>
     requires { ⌜ apart (now slots) ≡ true ⌝ }
     ensures answer { λ r. ⌜ answer-number (errPart r) ≡ answer-number (raise-refusal (K·Quantity .measure) (recordsHeld (K·Quantity .measure) (now (slots .entry))) (length (now (slots .entry))) everything provider quarter quantity) ⌝ }
     ensures after { λ _. ⌜ amounts (K·Quantity .measure) (recordsHeld (K·Quantity .measure) (now (slots .exit))) ≡ raised (K·Quantity .measure) (recordsHeld (K·Quantity .measure) (now (slots .entry))) (length (now (slots .entry))) everything provider quarter quantity ⌝ }
@@ -171,7 +194,12 @@ pub(crate) fn raise<K: Quantity>(slots: &mut [Option<Record<K::Row>>], provider:
 }
 
 /// Replaces one holding by its remainder after the quantity, or changes nothing and says why.
-pub(crate) fn lower<K: Quantity>(slots: &mut [Option<Record<K::Row>>], provider: u8, quarter: u8, quantity: K) -> Result<(), BookRefusal>
+pub(crate) fn lower<K: Quantity>(
+    slots: &mut [Option<Record<K::Row>>],
+    provider: u8,
+    quarter: u8,
+    quantity: K,
+) -> Result<(), BookRefusal>
     requires { ⌜ apart (now slots) ≡ true ⌝ }
     ensures answer { λ r. ⌜ answer-number (errPart r) ≡ answer-number (lower-refusal (K·Quantity .measure) (recordsHeld (K·Quantity .measure) (now (slots .entry))) (length (now (slots .entry))) provider quarter quantity) ⌝ }
     ensures after { λ _. ⌜ amounts (K·Quantity .measure) (recordsHeld (K·Quantity .measure) (now (slots .exit))) ≡ lowered (K·Quantity .measure) (recordsHeld (K·Quantity .measure) (now (slots .entry))) (length (now (slots .entry))) provider quarter quantity ⌝ }

@@ -33,7 +33,12 @@ impl<'a, K: Quantity> SparseBook<'a, K> {
 }
 
 // The call over the slots that a list of records holds.
-fn raise_records<K: Quantity>(records: &mut RecordList<'_, Option<Record<K::Row>>>, provider: u8, quarter: u8, quantity: K) -> Result<(), BookRefusal>
+fn raise_records<K: Quantity>(
+    records: &mut RecordList<'_, Option<Record<K::Row>>>,
+    provider: u8,
+    quarter: u8,
+    quantity: K,
+) -> Result<(), BookRefusal>
     requires { ⌜ apart (now records .slots .now) ≡ true ⌝ }
     ensures answer { λ r. ⌜ answer-number (errPart r) ≡ answer-number (raise-refusal (K·Quantity .measure) (recordsHeld (K·Quantity .measure) (now (records .entry) .slots .now)) (length (now (records .entry) .slots .now)) everything provider quarter quantity) ⌝ }
     ensures after { λ _. ⌜ amounts (K·Quantity .measure) (recordsHeld (K·Quantity .measure) (now (records .exit) .slots .now)) ≡ raised (K·Quantity .measure) (recordsHeld (K·Quantity .measure) (now (records .entry) .slots .now)) (length (now (records .entry) .slots .now)) everything provider quarter quantity ⌝ }
@@ -46,7 +51,12 @@ fn raise_records<K: Quantity>(records: &mut RecordList<'_, Option<Record<K::Row>
 }
 
 // The call over the slots that a list of records holds.
-fn lower_records<K: Quantity>(records: &mut RecordList<'_, Option<Record<K::Row>>>, provider: u8, quarter: u8, quantity: K) -> Result<(), BookRefusal>
+fn lower_records<K: Quantity>(
+    records: &mut RecordList<'_, Option<Record<K::Row>>>,
+    provider: u8,
+    quarter: u8,
+    quantity: K,
+) -> Result<(), BookRefusal>
     requires { ⌜ apart (now records .slots .now) ≡ true ⌝ }
     ensures answer { λ r. ⌜ answer-number (errPart r) ≡ answer-number (lower-refusal (K·Quantity .measure) (recordsHeld (K·Quantity .measure) (now (records .entry) .slots .now)) (length (now (records .entry) .slots .now)) provider quarter quantity) ⌝ }
     ensures after { λ _. ⌜ amounts (K·Quantity .measure) (recordsHeld (K·Quantity .measure) (now (records .exit) .slots .now)) ≡ lowered (K·Quantity .measure) (recordsHeld (K·Quantity .measure) (now (records .entry) .slots .now)) (length (now (records .entry) .slots .now)) provider quarter quantity ⌝ }

@@ -18,13 +18,13 @@ loop-quarter-holds g c =
     let change = c .args .change in
     let p = c .args .provider in
     let q = c .args .quantity in
-    let free = g .B·Book .places (c .args .book .now) - taken m held in
-    ( sym (spanned-none m held change p q (c .args .first))
-    , ap (leftAfter m held change p q (Some free) (c .args .first)) (let w : c .args .first - c .args .first ≡ 0 = omega arith in w) ∙ left-none (λ t. isZero m (held p t)) (λ t. isZero m (becomes m held change p q t)) (Some free) (c .args .first)
-    , c .pre .bound
-    , refl
-    , refl
-    , refl
+    let free = g .B·Book .places (c .args .book .now) - taken m held in (
+      sym (spanned-none m held change p q (c .args .first)),
+      ap (leftAfter m held change p q (Some free) (c .args .first)) (let w : c .args .first - c .args .first ≡ 0 = omega arith in w) ∙ left-none (λ t. isZero m (held p t)) (λ t. isZero m (becomes m held change p q t)) (Some free) (c .args .first),
+      c .pre .bound,
+      refl,
+      refl,
+      refl,
     )
 
 pub loop-quarter-again : need.loop-quarter-again
@@ -42,11 +42,11 @@ loop-quarter-again g c =
     let inv = c .loop-quarter .inv in
     let l : c .args .first ≤ t = omega arith in
     let h : t ≤ c .args .last = omega arith in
-    let is : amounts m after ≡ changedOne m held places admission change p t q = c .apply-one .ensures .after ∙ (ap (λ n. changedOne m held n (g .B·Book .admission (c .loop-quarter .book)) change p t q) (inv .3) ∙ ap (λ a. changedOne m held places a change p t q) (inv .4)) in
-    ( is ∙ next-amounts m held0 places admission change p (c .args .first) (c .args .last) q (c .pre) t l h held (inv .0) (inv .1) (inv .2)
-    , next-count m held0 places admission change p (c .args .first) (c .args .last) q (c .pre) t l h held (inv .0) (inv .1) (inv .2) after is
-    , next-bound m held0 places admission change p (c .args .first) (c .args .last) q (c .pre) t l h held (inv .0) (inv .1) (inv .2) after is
-    , c .apply-one .ensures .places ∙ inv .3
-    , c .apply-one .ensures .admission ∙ inv .4
-    , c .apply-one .ensures .layer ∙ inv .5
+    let is : amounts m after ≡ changedOne m held places admission change p t q = c .apply-one .ensures .after ∙ (ap (λ n. changedOne m held n (g .B·Book .admission (c .loop-quarter .book)) change p t q) (inv .3) ∙ ap (λ a. changedOne m held places a change p t q) (inv .4)) in (
+      is ∙ next-amounts m held0 places admission change p (c .args .first) (c .args .last) q (c .pre) t l h held (inv .0) (inv .1) (inv .2),
+      next-count m held0 places admission change p (c .args .first) (c .args .last) q (c .pre) t l h held (inv .0) (inv .1) (inv .2) after is,
+      next-bound m held0 places admission change p (c .args .first) (c .args .last) q (c .pre) t l h held (inv .0) (inv .1) (inv .2) after is,
+      c .apply-one .ensures .places ∙ inv .3,
+      c .apply-one .ensures .admission ∙ inv .4,
+      c .apply-one .ensures .layer ∙ inv .5,
     )

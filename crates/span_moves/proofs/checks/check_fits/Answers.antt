@@ -16,7 +16,7 @@ returns-then-is-none g c =
     let same = c .holding-held .ensures ∙ held-inside m held p t (range-from p t (omega arith) (omega arith)) in
     let none : next m (c .args .change) (held p t) (c .args .quantity) ≡ None = sym (c .next-holding .ensures ∙ ap (λ x. next m (c .args .change) x (c .args .quantity)) same) ∙ none-from (c .next-holding .result) (c .if-is-none .ensures tt) in
     sym (first-hit (unfit m held (c .args .change) p (c .args .quantity)) (c .args .first) (count (c .args .first) (c .args .last)) t (omega arith) (omega arith) (c .loop-quarter .inv) (c .misfit-refusal .result)
-      (ap (unless-some (misfit (c .args .change) p t)) none ∙ ap Some (sym (c .misfit-refusal .ensures))))
+    (ap (unless-some (misfit (c .args .change) p t)) none ∙ ap Some (sym (c .misfit-refusal .ensures))))
 
 pub returns : need.returns
 returns g c =

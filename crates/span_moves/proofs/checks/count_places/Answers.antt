@@ -38,13 +38,13 @@ returns-in-Break-left g c =
     let new : c .unwrap-or-changed .result ≡ becomes m held change p q t = c .unwrap-or-changed .ensures ∙ (ap (λ o. valueOr o (c .holding-held .result)) (c .next-holding .ensures ∙ ap (λ x. next m change x q) same) ∙ ap (valueOr (next m change (held p t) q)) same) in
     let will : isZero m (becomes m held change p q t) ≡ c .equals-in-loop-quarter .result = sym (c .equals-in-loop-quarter .ensures ∙ (ap (λ x. m .alike x (c .zero-zero .result)) new ∙ ap (m .alike (becomes m held change p q t)) zero)) in
     let stepped : leftAfter m held change p q (Some (c .args .free)) lo ((t - lo) + 1) ≡ c .after-step .result =
-          left-more (λ x. isZero m (held p x)) (λ x. isZero m (becomes m held change p q x)) (Some (c .args .free)) lo (t - lo) t (omega arith)
-          ∙ (ap (andLeft (isZero m (held p t)) (isZero m (becomes m held change p q t))) (c .loop-quarter .inv)
-          ∙ (ap (λ b. stepLeft b (isZero m (becomes m held change p q t)) (c .loop-quarter .left)) was
-          ∙ (ap (λ b. stepLeft (c .equals .result) b (c .loop-quarter .left)) will ∙ sym (c .after-step .ensures)))) in
+    left-more (λ x. isZero m (held p x)) (λ x. isZero m (becomes m held change p q x)) (Some (c .args .free)) lo (t - lo) t (omega arith)
+    ∙ (ap (andLeft (isZero m (held p t)) (isZero m (becomes m held change p q t))) (c .loop-quarter .inv)
+    ∙ (ap (λ b. stepLeft b (isZero m (becomes m held change p q t)) (c .loop-quarter .left)) was
+    ∙ (ap (λ b. stepLeft (c .equals .result) b (c .loop-quarter .left)) will ∙ sym (c .after-step .ensures)))) in
     c .from-residual .ensures
     ∙ sym (ap (leftAfter m held change p q (Some (c .args .free)) lo) (let w : count lo (c .args .last) ≡ ((t - lo) + 1) + (c .args .last - t) = omega arith in w)
-      ∙ left-gone (λ x. isZero m (held p x)) (λ x. isZero m (becomes m held change p q x)) (Some (c .args .free)) lo ((t - lo) + 1) (c .args .last - t) (stepped ∙ c .in-Break-left .was tt))
+    ∙ left-gone (λ x. isZero m (held p x)) (λ x. isZero m (becomes m held change p q x)) (Some (c .args .free)) lo ((t - lo) + 1) (c .args .last - t) (stepped ∙ c .in-Break-left .was tt))
 
 pub loop-quarter-again : need.loop-quarter-again
 loop-quarter-again g c =
@@ -61,8 +61,8 @@ loop-quarter-again g c =
     let new : c .unwrap-or-changed .result ≡ becomes m held change p q t = c .unwrap-or-changed .ensures ∙ (ap (λ o. valueOr o (c .holding-held .result)) (c .next-holding .ensures ∙ ap (λ x. next m change x q) same) ∙ ap (valueOr (next m change (held p t) q)) same) in
     let will : isZero m (becomes m held change p q t) ≡ c .equals-in-loop-quarter .result = sym (c .equals-in-loop-quarter .ensures ∙ (ap (λ x. m .alike x (c .zero-zero .result)) new ∙ ap (m .alike (becomes m held change p q t)) zero)) in
     let stepped : leftAfter m held change p q (Some (c .args .free)) lo ((t - lo) + 1) ≡ c .after-step .result =
-          left-more (λ x. isZero m (held p x)) (λ x. isZero m (becomes m held change p q x)) (Some (c .args .free)) lo (t - lo) t (omega arith)
-          ∙ (ap (andLeft (isZero m (held p t)) (isZero m (becomes m held change p q t))) (c .loop-quarter .inv)
-          ∙ (ap (λ b. stepLeft b (isZero m (becomes m held change p q t)) (c .loop-quarter .left)) was
-          ∙ (ap (λ b. stepLeft (c .equals .result) b (c .loop-quarter .left)) will ∙ sym (c .after-step .ensures)))) in
+    left-more (λ x. isZero m (held p x)) (λ x. isZero m (becomes m held change p q x)) (Some (c .args .free)) lo (t - lo) t (omega arith)
+    ∙ (ap (andLeft (isZero m (held p t)) (isZero m (becomes m held change p q t))) (c .loop-quarter .inv)
+    ∙ (ap (λ b. stepLeft b (isZero m (becomes m held change p q t)) (c .loop-quarter .left)) was
+    ∙ (ap (λ b. stepLeft (c .equals .result) b (c .loop-quarter .left)) will ∙ sym (c .after-step .ensures)))) in
     ap (leftAfter m held change p q (Some (c .args .free)) lo) (let w : (t + 1) - lo ≡ (t - lo) + 1 = omega arith in w) ∙ (stepped ∙ c .in-Continue-left .was tt)

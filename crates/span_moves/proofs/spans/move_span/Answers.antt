@@ -219,11 +219,11 @@ apply-span-requires-2 g c κs =
       welcome = λ t l h s other e k. ap (λ a. a taker t other) (c .apply-span .ensures .admission) ∙ still-welcome m held held1 giver taker q first last (sh .4) low gives takes t l h admission (c .in-rest-check-admitted .ensures tt .alike t l h) s other e k;
       bound = omega (arith, c .apply-span .ensures .bound, c .apply-span .ensures .places);
       room =
-        ap isSome
-        (ap (λ n. leftAfter m held1 Raising taker q (Some (n - taken m held1)) first (count first last)) (c .apply-span .ensures .places)
-        ∙ (same-left m held held1 giver taker q first last (sh .4) low gives takes (Some (places - taken m held1))
-        ∙ (ap (λ o. leftAfter m held Raising taker q o first (count first last)) (sym (c .apply-span .ensures .left)) ∙ both-left)))
-        ∙ c .if-is-none .ensures tt;
+          ap isSome
+          (ap (λ n. leftAfter m held1 Raising taker q (Some (n - taken m held1)) first (count first last)) (c .apply-span .ensures .places)
+          ∙ (same-left m held held1 giver taker q first last (sh .4) low gives takes (Some (places - taken m held1))
+          ∙ (ap (λ o. leftAfter m held Raising taker q o first (count first last)) (sym (c .apply-span .ensures .left)) ∙ both-left)))
+          ∙ c .if-is-none .ensures tt;
     }
 
 pub returns : need.returns

@@ -58,9 +58,9 @@ returns g c =
     let told : c .find-told .result ≡ firstAt (keyed p t) ss = c .find-told .ensures in
     let found : placeFor m ss p t q ≡ Some i = sym (place-found m ss p t q z (c .find-told .result) (c .place-of .result) told (c .place-of .ensures)) ∙ c .in-Some-place-of .is in
     let now : c .write .last .slots ≡ settled m ss p t q =
-          c .write .ensures
-          ∙ (ap (λ xs. set xs i (Some (record { provider = p; quarter = t; row = c .row-row .result }))) (c .release-2 .ensures ∙ ap (λ o. released o ss) told)
-          ∙ (ap (λ y. set (released (firstAt (keyed p t) ss) ss) i (Some (record { provider = p; quarter = t; row = y }))) (c .row-row .ensures) ∙ sym (settled-at m ss p t q i found))) in
+    c .write .ensures
+    ∙ (ap (λ xs. set xs i (Some (record { provider = p; quarter = t; row = c .row-row .result }))) (c .release-2 .ensures ∙ ap (λ o. released o ss) told)
+    ∙ (ap (λ y. set (released (firstAt (keyed p t) ss) ss) i (Some (record { provider = p; quarter = t; row = y }))) (c .row-row .ensures) ∙ sym (settled-at m ss p t q i found))) in
     record {
       answer = some-answer m ss p t q (c .pre .1) (c .args .refusal) (c .args .new) (c .in-Some .is) z i found;
       slots = now ∙ ap (changedSlots m ss p t None) (sym (c .in-Some .is));

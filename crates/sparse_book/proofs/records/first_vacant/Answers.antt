@@ -11,7 +11,7 @@ returns-then-is-vacant g c =
     let test = vacant (g .K·Quantity .measure) in
     let slots = c .args .slots .now in
     sym (first-some test None slots (c .loop-i .i) (omega arith) (c .loop-i .inv)
-      (ap test (sym (getD-read slots (c .loop-i .i) (c .index-slots-i .result) (omega arith) (c .index-slots-i .is) None)) ∙ sym (c .if-is-vacant .ensures tt)))
+    (ap test (sym (getD-read slots (c .loop-i .i) (c .index-slots-i .result) (omega arith) (c .index-slots-i .is) None)) ∙ sym (c .if-is-vacant .ensures tt)))
 
 pub returns : need.returns
 returns g c = sym (first-none (vacant (g .K·Quantity .measure)) None (c .args .slots .now) (λ k l. c .loop-i .inv k (omega arith)))

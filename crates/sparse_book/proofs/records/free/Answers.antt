@@ -17,14 +17,14 @@ loop-slot-again g c =
     let m = g .K·Quantity .measure in
     let more = vacancies-more m (c .args .slots .now) (c .loop-slot .slot-index) (c .slot-item .result) (omega arith) (c .slot-item .is) in
     elim (c .if-is-vacant .came) [
-      then-is-vacant w ↦
-        ( omega (arith, w .free-is, more, c .loop-slot .inv .0, ap {B = ℕ} (λ b. cond b 1 0) (sym (c .is-vacant .ensures) ∙ w .if-is-vacant .taken))
-        , omega (arith, w .free-is, c .loop-slot .inv .1)
-        )
-    | else-is-vacant w ↦
-        ( omega (arith, w .free-is, more, c .loop-slot .inv .0, ap {B = ℕ} (λ b. cond b 1 0) (sym (c .is-vacant .ensures) ∙ w .if-is-vacant .left))
-        , omega (arith, w .free-is, c .loop-slot .inv .1)
-        )
+      | then-is-vacant w ↦ (
+        omega (arith, w .free-is, more, c .loop-slot .inv .0, ap {B = ℕ} (λ b. cond b 1 0) (sym (c .is-vacant .ensures) ∙ w .if-is-vacant .taken)),
+        omega (arith, w .free-is, c .loop-slot .inv .1),
+      )
+      | else-is-vacant w ↦ (
+        omega (arith, w .free-is, more, c .loop-slot .inv .0, ap {B = ℕ} (λ b. cond b 1 0) (sym (c .is-vacant .ensures) ∙ w .if-is-vacant .left)),
+        omega (arith, w .free-is, c .loop-slot .inv .1),
+      )
     ]
 
 pub returns : need.returns

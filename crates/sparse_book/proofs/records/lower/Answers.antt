@@ -33,9 +33,9 @@ returns g c =
     let t = c .args .quarter in
     let inside : inRange p t ≡ true = sym (c .if-not-in-range .ensures tt) in
     let new : c .remainder-left .result ≡ m .remaining (heldAt m (recordsHeld m ss) p t) (c .args .quantity) =
-          c .remainder-left .ensures ∙ ap (λ x. m .remaining x (c .args .quantity)) (c .holding .ensures) in
+    c .remainder-left .ensures ∙ ap (λ x. m .remaining x (c .args .quantity)) (c .holding .ensures) in
     let why : errPart (c .change .result) ≡ lower-refusal m (recordsHeld m ss) (length ss) p t (c .args .quantity) =
-          lower-answer m (recordsHeld m ss) (length ss) p t (c .args .quantity) inside (c .remainder-left .result) (errPart (c .change .result)) new (c .change .ensures .answer) in
+    lower-answer m (recordsHeld m ss) (length ss) p t (c .args .quantity) inside (c .remainder-left .result) (errPart (c .change .result)) new (c .change .ensures .answer) in
     record {
       answer = ap answer-number why;
       after = c .change .ensures .after ∙ lower-after m (recordsHeld m ss) (length ss) p t (c .args .quantity) inside (c .remainder-left .result) (errPart (c .change .result)) new (c .change .ensures .answer);

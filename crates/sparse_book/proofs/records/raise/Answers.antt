@@ -33,9 +33,9 @@ returns g c =
     let t = c .args .quarter in
     let inside : inRange p t ≡ true = sym (c .if-not-in-range .ensures tt) in
     let new : c .join-sum .result ≡ m .joined (heldAt m (recordsHeld m ss) p t) (c .args .quantity) =
-          c .join-sum .ensures ∙ ap (λ x. m .joined x (c .args .quantity)) (c .holding .ensures) in
+    c .join-sum .ensures ∙ ap (λ x. m .joined x (c .args .quantity)) (c .holding .ensures) in
     let why : errPart (c .change .result) ≡ raise-refusal m (recordsHeld m ss) (length ss) everything p t (c .args .quantity) =
-          raise-answer m (recordsHeld m ss) (length ss) p t (c .args .quantity) inside (c .join-sum .result) (errPart (c .change .result)) everything new (c .change .ensures .answer) in
+    raise-answer m (recordsHeld m ss) (length ss) p t (c .args .quantity) inside (c .join-sum .result) (errPart (c .change .result)) everything new (c .change .ensures .answer) in
     record {
       answer = ap answer-number why;
       after = c .change .ensures .after ∙ raise-after m (recordsHeld m ss) (length ss) p t (c .args .quantity) inside (c .join-sum .result) (errPart (c .change .result)) everything new (c .change .ensures .answer);

@@ -1,0 +1,3 @@
+//! Runs of moves over spans of quarters.
+#[cfg(test)]
+mod volumes;
