@@ -30,7 +30,7 @@ pub impl Quantity for Volume as VolumeQuantity {
     }
 
     fn row(self) -> u16 {
-        self.tenths
+        self.up()
     }
 
     fn of_row(row: u16) -> Volume {

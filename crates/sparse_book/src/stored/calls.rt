@@ -1,10 +1,13 @@
 ghost use mathlib.Core.Path.{_≡_};
+ghost use Prim.Native.Nat.{ℕ};
 ghost use lib.ListN.{length};
 ghost use Rattle.std.specs.Of.Vec.{vec-items};
 ghost use Rattle.std.specs.Vec.{made};
+ghost use Rattle.std.specs.Results.{errPart};
+ghost use Rattle.book.specs.Numbers.{answer-number};
 ghost use Rattle.book.specs.Grid.{amounts};
-ghost use Rattle.book.specs.Calls.{everything};
-ghost use Rattle.sparse_book.specs.Records.{recordsHeld};
+ghost use Rattle.book.specs.Calls.{everything, raise-refusal, lower-refusal, raised, lowered};
+ghost use Rattle.sparse_book.specs.Records.{recordsHeld, raisedSlots, loweredSlots};
 use crate::record::Record;
 use crate::records;
 use crate::stored::StoredSparseBook;
@@ -54,11 +57,26 @@ pub impl<K: Quantity> Book for StoredSparseBook<K> as StoredSparseIsBook {
         0
     }
 
-    fn raise(&mut self, provider: u8, quarter: u8, quantity: K) -> Result<(), BookRefusal> {
+    // The interface's promises once more, and which slot is taken or freed.
+    fn raise(&mut self, provider: u8, quarter: u8, quantity: K) -> Result<(), BookRefusal>
+        ensures answer { λ r. ⌜ answer-number (errPart r) ≡ answer-number (raise-refusal (K·Quantity .measure) (recordsHeld (K·Quantity .measure) (vec-items (now (self .entry) .slots))) (length (vec-items (now (self .entry) .slots))) everything provider quarter quantity) ⌝ }
+        ensures after { λ _. ⌜ amounts (K·Quantity .measure) (recordsHeld (K·Quantity .measure) (vec-items (now (self .exit) .slots))) ≡ raised (K·Quantity .measure) (recordsHeld (K·Quantity .measure) (vec-items (now (self .entry) .slots))) (length (vec-items (now (self .entry) .slots))) everything provider quarter quantity ⌝ }
+        ensures places { λ _. ⌜ length (vec-items (now (self .exit) .slots)) ≡ length (vec-items (now (self .entry) .slots)) ⌝ }
+        ensures admission { λ _. ⌜ everything {Q = K} ≡ everything ⌝ }
+        ensures layer { λ _. ⌜ _≡_ {A = ℕ} 0 0 ⌝ }
+        ensures slots { λ _. ⌜ vec-items (now (self .exit) .slots) ≡ raisedSlots (K·Quantity .measure) (vec-items (now (self .entry) .slots)) provider quarter quantity ⌝ }
+    {
         records::raise(self.slots.as_mut_slice(), provider, quarter, quantity)
     }
 
-    fn lower(&mut self, provider: u8, quarter: u8, quantity: K) -> Result<(), BookRefusal> {
+    fn lower(&mut self, provider: u8, quarter: u8, quantity: K) -> Result<(), BookRefusal>
+        ensures answer { λ r. ⌜ answer-number (errPart r) ≡ answer-number (lower-refusal (K·Quantity .measure) (recordsHeld (K·Quantity .measure) (vec-items (now (self .entry) .slots))) (length (vec-items (now (self .entry) .slots))) provider quarter quantity) ⌝ }
+        ensures after { λ _. ⌜ amounts (K·Quantity .measure) (recordsHeld (K·Quantity .measure) (vec-items (now (self .exit) .slots))) ≡ lowered (K·Quantity .measure) (recordsHeld (K·Quantity .measure) (vec-items (now (self .entry) .slots))) (length (vec-items (now (self .entry) .slots))) provider quarter quantity ⌝ }
+        ensures places { λ _. ⌜ length (vec-items (now (self .exit) .slots)) ≡ length (vec-items (now (self .entry) .slots)) ⌝ }
+        ensures admission { λ _. ⌜ everything {Q = K} ≡ everything ⌝ }
+        ensures layer { λ _. ⌜ _≡_ {A = ℕ} 0 0 ⌝ }
+        ensures slots { λ _. ⌜ vec-items (now (self .exit) .slots) ≡ loweredSlots (K·Quantity .measure) (vec-items (now (self .entry) .slots)) provider quarter quantity ⌝ }
+    {
         records::lower(self.slots.as_mut_slice(), provider, quarter, quantity)
     }
 }

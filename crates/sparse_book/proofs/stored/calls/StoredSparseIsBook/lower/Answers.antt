@@ -6,7 +6,7 @@ use Rattle.std.specs.Of.Vec.{vec-items}
 use Rattle.book.specs.Grid.{amounts}
 use Rattle.book.specs.Numbers.{answer-number}
 use Rattle.book.specs.Calls.{everything, lower-refusal, lowered}
-use Rattle.sparse_book.specs.Records.{apart, recordsHeld}
+use Rattle.sparse_book.specs.Records.{apart, recordsHeld, loweredSlots}
 use Rattle.sparse_book.proofs.stored.calls.StoredSparseIsBook.lower.Needs as need
 
 pub lower-requires : need.lower-requires
@@ -29,4 +29,5 @@ returns g c =
       places = ap length back ∙ (c .lower .ensures .places ∙ ap length lent);
       admission = refl;
       layer = refl;
+      slots = back ∙ (c .lower .ensures .slots ∙ ap (λ ss. loweredSlots m ss (c .args .provider) (c .args .quarter) (c .args .quantity)) lent);
     }

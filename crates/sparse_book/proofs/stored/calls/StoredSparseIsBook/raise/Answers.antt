@@ -6,7 +6,7 @@ use Rattle.std.specs.Of.Vec.{vec-items}
 use Rattle.book.specs.Grid.{amounts}
 use Rattle.book.specs.Numbers.{answer-number}
 use Rattle.book.specs.Calls.{everything, raise-refusal, raised}
-use Rattle.sparse_book.specs.Records.{apart, recordsHeld}
+use Rattle.sparse_book.specs.Records.{apart, recordsHeld, raisedSlots}
 use Rattle.sparse_book.proofs.stored.calls.StoredSparseIsBook.raise.Needs as need
 
 pub raise-requires : need.raise-requires
@@ -29,4 +29,5 @@ returns g c =
       places = ap length back ∙ (c .raise .ensures .places ∙ ap length lent);
       admission = refl;
       layer = refl;
+      slots = back ∙ (c .raise .ensures .slots ∙ ap (λ ss. raisedSlots m ss (c .args .provider) (c .args .quarter) (c .args .quantity)) lent);
     }
