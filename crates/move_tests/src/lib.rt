@@ -1,4 +1,6 @@
-//! Runs of moves over spans of quarters.
+//! Runs of moves over spans of quarters, of volumes and of a signed quantity without directions.
+#[cfg(test)]
+mod balances;
+pub mod cents;
 #[cfg(test)]
 mod volumes;
-pub mod cents;

@@ -10,7 +10,6 @@ use quantity::fcr::Volume;
 use quantity::fcr::laws::VolumeQuantity;
 use quantity::fcr::laws::VolumeReserve;
 use quantity::interface::Quantity;
-use quantity::reserve::ReserveQuantity;
 use span_moves::refusal::SpanRefusal;
 use span_moves::refusal::SpanRefusalDebug;
 use span_moves::refusal::SpanRefusalPartialEq;
@@ -191,7 +190,7 @@ fn order_of_the_others() -> Result<(), Fail> {
     holds(&book, 31, 0, 99, 1)
 }
 
-// A place freed at an earlier step serves a later one, and not the other way round.
+// A place freed at an earlier step serves a later one; a place that is still held does not.
 #[test]
 fn a_freed_place_serves_later() -> Result<(), Fail> {
     let mut slots: [Option<Record<u16>>; 2] = [None; 2];
