@@ -26,7 +26,7 @@ impl<'a, K: Quantity> FullBook<'a, K> {
         ensures rows { λ r. ⌜ r .rows .now ≡ now (rows .entry) ⌝ }
         ensures lender { λ r. ⌜ name (r .rows) ≡ name (rows .entry) ⌝ }
     {
-        FullBook { rows }
+        Self { rows }
     }
 
     /// A book with every holding zero, whatever the rows told.

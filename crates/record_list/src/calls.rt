@@ -36,8 +36,8 @@ impl<'a, E: Copy> RecordList<'a, E> {
         for i in 0..slots.len() {
             slots[i] = e;
         }
-        let used = slots.len();
-        RecordList { slots, used }
+        let all = slots.len();
+        RecordList { slots, used: all }
     }
 
     pub fn len(&self) -> usize
