@@ -10,7 +10,7 @@ import pathlib
 import re
 import sys
 
-TOKEN = re.compile(r"[^\s(){}\[\];,.·|\"`⌜⌝]+")
+TOKEN = re.compile(r"[^\s(){}\[\];:,.·|\"`⌜⌝]+")
 DECLARED = re.compile(r"^\s*((?:pub|abbrev|unfoldable|data|record)\s+)*([^\s(){}\[\];,.:=|λ]+)\s+:(?:\s+(?!goal\.)|$)")
 GHOST = re.compile(r"^\s*ghost\s+([^\s(){}\[\];,.:=]+)\s*[:=]")
 # Where the plain spelling is taken, by a function of src/ or by another definition.

@@ -1,3 +1,5 @@
+#![tactic(auto)]
+
 pub mod award;
 pub mod blocks;
 mod prices;

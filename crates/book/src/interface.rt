@@ -19,7 +19,7 @@ pub trait Book {
 
     ghost admission: { Self → ℕ → ℕ → Self.Q → Admission };
 
-    ghost layerNumber: { Self → ℕ };
+    ghost layer_number: { Self → ℕ };
 
     /// The holding, zero outside the range.
     fn holding(&self, provider: u8, quarter: u8) -> Self::Q

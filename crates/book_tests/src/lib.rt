@@ -1,5 +1,7 @@
 //! Tests of the quantities and of the full book over lent rows.
 
+#![tactic(auto)]
+
 #[cfg(test)]
 mod bands;
 #[cfg(test)]

@@ -1,3 +1,5 @@
+#![tactic(auto)]
+
 pub mod bureau;
 pub mod calls;
 pub mod supply;

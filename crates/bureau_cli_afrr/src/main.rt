@@ -1,3 +1,5 @@
+#![tactic(auto)]
+
 use console::session::run_script;
 use std::io::Read;
 

@@ -1,3 +1,5 @@
+#![tactic(auto)]
+
 pub mod announcing;
 pub mod awarding;
 pub mod counting;

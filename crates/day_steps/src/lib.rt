@@ -1,3 +1,5 @@
+#![tactic(auto)]
+
 pub mod gates;
 pub mod openings;
 pub mod questions;

@@ -1,3 +1,5 @@
+#![tactic(auto)]
+
 pub mod lent;
 pub mod rows;
 pub mod stored;

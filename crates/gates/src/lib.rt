@@ -1,2 +1,4 @@
+#![tactic(auto)]
+
 pub mod gate;
 pub mod passing;

@@ -1,3 +1,5 @@
+#![tactic(auto)]
+
 pub mod layer;
 pub mod layer_book;
 pub mod table;

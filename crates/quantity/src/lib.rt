@@ -1,3 +1,5 @@
+#![tactic(auto)]
+
 pub mod afrr;
 pub mod direction;
 pub mod fcr;

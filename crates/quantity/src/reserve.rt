@@ -10,7 +10,7 @@ pub trait ReserveQuantity: Quantity {
     ghost directions: { ℕ };
 
     /// The tenths in the direction of a number.
-    ghost tenthsIn: { Self → ℕ → ℕ };
+    ghost tenths_in: { Self → ℕ → ℕ };
 
     /// One (up) or two (up and down).
     fn direction_count() -> u8
