@@ -59,6 +59,18 @@ def own_names(top):
     return {n for n in names if n[0].islower() and snake(n) != n}
 
 
+def parts(path, text):
+    """The text cut at what stays, its strings and comments."""
+    stays = r'("(?:[^"\\\n]|\\.)*"|//[^\n]*)' if ".rt" in path.name else r'("(?:[^"\\\n]|\\.)*"|--[^\n]*)'
+    return re.split(stays, text)
+
+
+def respelled(part, table):
+    if part.startswith(('"', "//", "--")):
+        return part
+    return TOKEN.sub(lambda m: table.get(m.group(0), m.group(0)), part)
+
+
 def main():
     top = pathlib.Path(sys.argv[1] if len(sys.argv) > 1 else ".")
     table = {n: snake(n) for n in own_names(top)}
@@ -78,7 +90,7 @@ def main():
     changed = 0
     for path in texts(top):
         text = path.read_text()
-        out = TOKEN.sub(lambda m: table.get(m.group(0), m.group(0)), text)
+        out = "".join(respelled(part, table) for part in parts(path, text))
         if out != text:
             path.write_text(out)
             changed += 1

@@ -2,12 +2,12 @@
 use Rattle.std.proofs.Common.{◌≡◌, ℕ, Bool, true, false, cond, ◌&&◌, eqb, Some, None, Option, unwrap_or, sym, refl, ap, ◌∙◌}
 use mathlib.Core.Path.{fun_ext}
 use Rattle.std.proofs.lemmas.Bool.{cond-true, cond-false}
-use Rattle.quantity.specs.Measure.{Measure, Sum, is_zero}
+use Rattle.quantity.specs.Measure.{Measure, Sum}
 use Rattle.book.specs.Grid.{Grid, in_range, put, amounts}
 use Rattle.book.specs.Calls.{held_at, barred, full, crowded, unless, everything, changed, change_refusal, raise_refusal, lower_refusal, raised, lowered}
 use Rattle.book.specs.declared.answers.Cause.{Cause}
 use Rattle.book.specs.declared.answers.Admission.{Admission}
-use Rattle.book.specs.declared.answers.Admission.TheVariants.{Yes, No}
+use Rattle.book.specs.declared.answers.Admission.TheVariants.{No}
 use Rattle.book.specs.declared.answers.BookRefusal.{BookRefusal}
 use Rattle.book.specs.declared.answers.BookRefusal.TheVariants.{OutsideRange, NoRemainder, SumDoesNotFit, NotAdmitted}
 

@@ -42,9 +42,9 @@ impl fmt::Display for BookRefusal {
     fn fmt<W: fmt::Write>(&self, f: &mut fmt::Formatter<W>) -> fmt::Result {
         match *self {
             BookRefusal::OutsideRange => write!(f, "outside-range"),
-            BookRefusal::NoRemainder => write!(f, "no_remainder"),
+            BookRefusal::NoRemainder => write!(f, "no-remainder"),
             BookRefusal::SumDoesNotFit => write!(f, "sum-does-not-fit"),
-            BookRefusal::NotAdmitted(cause) => write!(f, "not_admitted {cause}"),
+            BookRefusal::NotAdmitted(cause) => write!(f, "not-admitted {cause}"),
             BookRefusal::NoFreePlace => write!(f, "no-free-place"),
         }
     }

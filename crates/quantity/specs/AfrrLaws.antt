@@ -1,6 +1,6 @@
 -- Bands stand for pairs of whole numbers of tenths, of which those up to 10,000 fit, and show the laws of a quantity.
-use Rattle.std.specs.Prelude.{◌≡◌, ℕ, ◌+◌, ◌-◌, ◌<◌, ◌≤◌, Bool, true, false, cond, ◌&&◌, leb, Some, None, Option, MatchOption, ◌==◌, ◌≢◌, nat_le, refl}
-use Rattle.std.proofs.Common.{sym, ap, ⊎_elim, arith, leb-true, leb-false, eqb-true, eq-eqb}
+use Rattle.std.specs.Prelude.{◌≡◌, ℕ, ◌+◌, ◌-◌, ◌≤◌, Bool, true, false, cond, ◌&&◌, leb, Some, None, Option, MatchOption, ◌==◌, ◌≢◌, nat_le, refl}
+use Rattle.std.proofs.Common.{ap, ⊎_elim, arith, leb-true, leb-false, eqb-true, eq-eqb}
 use mathlib.Core.HLevel.{is_prop→PathP}
 use Rattle.std.proofs.Math.Bridge.{le_prop}
 use Rattle.std.proofs.lemmas.Bool.{and_parts, and_from, and_cases}

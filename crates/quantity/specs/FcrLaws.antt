@@ -1,6 +1,6 @@
 -- Volumes stand for whole numbers of tenths, of which those up to 10,000 fit, and show the laws of a quantity.
 use Rattle.std.specs.Prelude.{◌≡◌, ℕ, ◌+◌, ◌-◌, ◌<◌, ◌≤◌, Bool, true, false, cond, leb, Some, None, Option, MatchOption, ◌==◌, ◌≢◌, nat_le, refl}
-use Rattle.std.proofs.Common.{sym, ap, arith, leb-true, leb-false, eqb-true, eq-eqb}
+use Rattle.std.proofs.Common.{ap, arith, leb-true, leb-false, eqb-true, eq-eqb}
 use mathlib.Core.HLevel.{is_prop→PathP}
 use Rattle.std.proofs.Math.Bridge.{le_prop}
 use Rattle.std.specs.Option.{unwrap_or}
