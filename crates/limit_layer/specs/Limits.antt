@@ -1,5 +1,5 @@
 -- Limits of providers, and what they admit.
-use Rattle.std.specs.Prelude.{ℕ, zero, suc, ◌+◌, min, Bool, cond, ◌&&◌, List, [], ◌∷◌, Some, None, Option, ◌==◌, nat_le, nat_lt, slice_index}
+use Rattle.std.specs.Prelude.{ℕ, zero, suc, ◌+◌, min, cond, ◌&&◌, List, [], ◌∷◌, Some, None, Option, ◌==◌, nat_le, nat_lt, slice_index}
 use Rattle.quantity.specs.declared.direction.Direction.TheVariants.{Up, Down}
 use Rattle.book.specs.declared.answers.Admission.{Admission}
 use Rattle.book.specs.declared.answers.Admission.TheVariants.{Yes, No}

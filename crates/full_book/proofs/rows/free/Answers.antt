@@ -1,7 +1,7 @@
-use Rattle.std.proofs.Common.{◌≡◌, ℕ, true, false, length, sym, refl, ap, ◌∙◌, arith}
+use Rattle.std.proofs.Common.{◌≡◌, ℕ, false, length, ap, ◌∙◌, arith}
 use Rattle.std.proofs.lemmas.Bool.{cond-true, cond-false, le-leb, lt-leb}
 use Rattle.quantity.specs.Measure.{is_zero}
-use Rattle.book.specs.Grid.{total, filled, taken}
+use Rattle.book.specs.Grid.{total, filled}
 use Rattle.book.proofs.Counts.{total_none, total_more, taken_none, taken_is, nothing_zero}
 use Rattle.full_book.specs.Rows.{enough, rows_held}
 use Rattle.full_book.proofs.Tables.{held_few}
@@ -23,7 +23,7 @@ loop-provider-init g c = let m = g.K.Quantity.measure in omega (arith, total_non
 pub loop-provider-preserved : goal.loop-provider-preserved
 loop-provider-preserved g c =
     let m = g.K.Quantity.measure in
-    omega (arith, c.loop-provider.invariant, c.free-of-free.ensures, total_more (λ p. total (filled m (rows_held m c.args.rows.now) p) 100) c.loop-provider.provider)
+    omega (arith, c.loop-provider.invariant, c.free_of-free.ensures, total_more (λ p. total (filled m (rows_held m c.args.rows.now) p) 100) c.loop-provider.provider)
 
 pub returns : goal.returns
 returns g c =

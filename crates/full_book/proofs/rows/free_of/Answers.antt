@@ -1,6 +1,6 @@
-use Rattle.std.proofs.Common.{◌≡◌, ℕ, cond, sym, refl, ap, ◌∙◌, arith}
+use Rattle.std.proofs.Common.{◌≡◌, ℕ, cond, sym, ap, ◌∙◌, arith}
 use Rattle.quantity.specs.Measure.{is_zero}
-use Rattle.book.specs.Grid.{total, filled}
+use Rattle.book.specs.Grid.{filled}
 use Rattle.book.proofs.Grids.{range_from}
 use Rattle.book.proofs.Counts.{total_none, total_more}
 use Rattle.book.proofs.Changes.{held_inside}

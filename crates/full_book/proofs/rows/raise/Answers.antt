@@ -7,11 +7,11 @@ use Rattle.book.proofs.Changes.{raise_outside, raise_outside_after, raise_answer
 use Rattle.full_book.specs.Rows.{rows_held, rows_places}
 use Rattle.full_book.proofs.rows.raise.Goals as goal
 
-pub returns-then-not-in-range : goal.returns-then-not-in-range
-returns-then-not-in-range g c =
+pub returns-then-not-in_range : goal.returns-then-not-in_range
+returns-then-not-in_range g c =
     let m = g.K.Quantity.measure in
     let rows = c.args.rows.now in
-    let out : in_range c.args.provider c.args.quarter ≡ false = sym c.if-not-in-range.ensures in
+    let out : in_range c.args.provider c.args.quarter ≡ false = sym c.if-not-in_range.ensures in
     record {
       answer = ap answer_number (sym (raise_outside m (rows_held m rows) (rows_places rows) c.args.provider c.args.quarter c.args.quantity everything out));
       after = raise_outside_after m (rows_held m rows) (rows_places rows) c.args.provider c.args.quarter c.args.quantity everything out;
@@ -22,7 +22,7 @@ pub returns : goal.returns
 returns g c =
     let m = g.K.Quantity.measure in
     let rows = c.args.rows.now in
-    let inside : in_range c.args.provider c.args.quarter ≡ true = sym c.if-not-in-range.ensures in
+    let inside : in_range c.args.provider c.args.quarter ≡ true = sym c.if-not-in_range.ensures in
     let new : c.join-sum.result ≡ _ = c.join-sum.ensures ∙ ap (λ x. m.joined x c.args.quantity) c.holding.ensures in
     record {
       answer = ap answer_number (raise_answer m (rows_held m rows) (rows_places rows) c.args.provider c.args.quarter c.args.quantity inside c.join-sum.result (result_err c.change.result) everything new c.change.ensures.answer);

@@ -1,4 +1,4 @@
-use Rattle.std.proofs.Common.{◌≡◌, refl, ap, ◌∙◌}
+use Rattle.std.proofs.Common.{refl, ap, ◌∙◌}
 use Rattle.book.specs.Grid.{amounts}
 use Rattle.full_book.specs.Rows.{rows_held}
 use Rattle.full_book.proofs.Tables.{blank_empty}

@@ -1,4 +1,4 @@
-use Rattle.std.proofs.Common.{◌≡◌, length, drop, vec_items, sym, refl, ap, ◌∙◌, arith}
+use Rattle.std.proofs.Common.{◌≡◌, length, drop, vec_items, refl, ap, ◌∙◌, arith}
 use Rattle.std.proofs.lemmas.List.{take_at}
 use Rattle.book.specs.Grid.{amounts}
 use Rattle.book.specs.Numbers.{answer_number}
@@ -10,7 +10,7 @@ use Rattle.full_book.proofs.stored.StoredFullBookBook.raise.Goals as goal
 pub returns : goal.returns
 returns g c =
     let m = g.K.Quantity.measure in
-    let lent = c.as-mut-slice.ensures.value in
+    let lent = c.as_mut_slice.ensures.value in
     let size : length c.raise.new.rows ≡ c.args.self.now.rows.len = omega arith in
     let back = take_at c.raise.new.rows (drop (length c.raise.new.rows) c.args.self.now.rows.items) c.args.self.now.rows.len size in
     record {

@@ -1,15 +1,14 @@
-use Rattle.std.proofs.Common.{◌≡◌, ℕ, true, false, List, ◌∷◌, Some, None, sym, refl, ap, ◌∙◌}
+use Rattle.std.proofs.Common.{◌≡◌, true, false, ◌∷◌, sym, refl, ap, ◌∙◌}
 use Rattle.book.specs.Grid.{in_range}
 use Rattle.book.specs.Numbers.{answer_number}
-use Rattle.book.specs.Calls.{raise_refusal, raised}
-use Rattle.book.specs.declared.answers.BookRefusal.TheVariants.{OutsideRange, SumDoesNotFit, NotAdmitted}
+use Rattle.book.specs.declared.answers.BookRefusal.TheVariants.{SumDoesNotFit, NotAdmitted}
 use Rattle.book.proofs.Changes.{held_inside, raise_outside, raise_outside_after, raise_refused_after, raise_no_sum, raise_barred, raise_same, raised_same}
 use Rattle.limit_layer.specs.Limits.{limited, next_layer}
 use Rattle.limit_layer.proofs.Layers.{admitted_below, not_admitted}
 use Rattle.limit_layer.proofs.layer_book.LimitLayerBook.raise.Goals as goal
 
-pub returns-then-not-in-range : goal.returns-then-not-in-range
-returns-then-not-in-range g c =
+pub returns-then-not-in_range : goal.returns-then-not-in_range
+returns-then-not-in_range g c =
     let m = g.B.Q.Quantity.measure in
     let s = c.args.self.now in
     let p = c.args.provider in
@@ -20,7 +19,7 @@ returns-then-not-in-range g c =
     let below = g.B.Book.admission s.below in
     let layer = next_layer (g.B.Book.layer_number s.below) in
     let own = limited s.limits layer below g.B.Q.ReserveQuantity.tenths_in in
-    let out : in_range p t ≡ false = sym c.if-not-in-range.ensures in
+    let out : in_range p t ≡ false = sym c.if-not-in_range.ensures in
     record {
       answer = ap answer_number (sym (raise_outside m held places p t q own out));
       after = raise_outside_after m held places p t q own out;
@@ -29,8 +28,8 @@ returns-then-not-in-range g c =
       layer = refl;
     }
 
-pub returns-in-default : goal.returns-in-default
-returns-in-default g c =
+pub returns-in_default : goal.returns-in_default
+returns-in_default g c =
     let m = g.B.Q.Quantity.measure in
     let s = c.args.self.now in
     let p = c.args.provider in
@@ -41,9 +40,9 @@ returns-in-default g c =
     let below = g.B.Book.admission s.below in
     let layer = next_layer (g.B.Book.layer_number s.below) in
     let own = limited s.limits layer below g.B.Q.ReserveQuantity.tenths_in in
-    let inside : in_range p t ≡ true = sym c.if-not-in-range.ensures in
+    let inside : in_range p t ≡ true = sym c.if-not-in_range.ensures in
     let joined : c.join.result ≡ m.joined (held p t) q = c.join.ensures ∙ ap (λ x. m.joined x q) (c.holding.ensures ∙ held_inside m held p t inside) in
-    let why = raise_no_sum m held places p t q inside own (sym joined ∙ c.in-default.is) in
+    let why = raise_no_sum m held places p t q inside own (sym joined ∙ c.in_default.is) in
     record {
       answer = ap answer_number (sym why);
       after = raise_refused_after m held places p t q own SumDoesNotFit why;
@@ -64,7 +63,7 @@ returns-in-No g c =
     let below = g.B.Book.admission s.below in
     let layer = next_layer (g.B.Book.layer_number s.below) in
     let own = limited s.limits layer below g.B.Q.ReserveQuantity.tenths_in in
-    let inside : in_range p t ≡ true = sym c.if-not-in-range.ensures in
+    let inside : in_range p t ≡ true = sym c.if-not-in_range.ensures in
     let joined : c.join.result ≡ m.joined (held p t) q = c.join.ensures ∙ ap (λ x. m.joined x q) (c.holding.ensures ∙ held_inside m held p t inside) in
     let w = not_admitted s.limits layer below g.B.Q.ReserveQuantity.tenths_in p t inside c.in-Some.sum c.in-No.cause c.in-No.ensures.value in
     let why = raise_barred m held places p t q inside c.in-Some.sum (sym joined ∙ c.in-Some.is) own w.0 w.1 in
@@ -88,7 +87,7 @@ returns-in-Yes g c =
     let below = g.B.Book.admission s.below in
     let layer = next_layer (g.B.Book.layer_number s.below) in
     let own = limited s.limits layer below g.B.Q.ReserveQuantity.tenths_in in
-    let inside : in_range p t ≡ true = sym c.if-not-in-range.ensures in
+    let inside : in_range p t ≡ true = sym c.if-not-in_range.ensures in
     let joined : c.join.result ≡ m.joined (held p t) q = c.join.ensures ∙ ap (λ x. m.joined x q) (c.holding.ensures ∙ held_inside m held p t inside) in
     let same = admitted_below s.limits layer below g.B.Q.ReserveQuantity.tenths_in p t inside c.in-Some.sum c.in-Yes.ensures.value in
     let is = sym joined ∙ c.in-Some.is in

@@ -1,4 +1,4 @@
-use Rattle.std.proofs.Common.{◌≡◌, ℕ, ◌≤◌, length, get_or, sym, arith}
+use Rattle.std.proofs.Common.{◌≡◌, ℕ, ◌≤◌, length, sym, arith}
 use Rattle.std.proofs.lemmas.List.{get_or_past}
 use Rattle.quantity.specs.declared.direction.Direction.{Direction}
 use Rattle.quantity.specs.declared.direction.Direction.TheVariants.{Up, Down}
