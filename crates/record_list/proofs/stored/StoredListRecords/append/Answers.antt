@@ -1,4 +1,4 @@
-use Rattle.std.proofs.Common.{◌≡◌, ◌<◌, ◌≤◌, length, sym, refl, ap, ◌∙◌, arith, length-set}
+use Rattle.std.proofs.Common.{◌<◌, ◌≤◌, length, refl, arith, length-set}
 use Rattle.record_list.proofs.Takes.{full_place, full_pushed, room_place, room_pushed}
 use Rattle.record_list.proofs.stored.StoredListRecords.append.Goals as goal
 
