@@ -1,10 +1,18 @@
 -- The first slots of a list.
-use Rattle.std.proofs.Common.{◌≡◌, ℕ, ◌+◌, ◌<◌, ◌≤◌, true, false, ltb, List, [], ◌∷◌, ◌++◌, map, length, get_or, take, drop, set, Some, None, sym, ap, ◌∙◌, arith, length-append, length-drop, length-take}
+use Rattle.std.proofs.Common.{◌≡◌, ℕ, ◌+◌, ◌<◌, ◌≤◌, true, false, ltb, List, [], ◌∷◌, ◌++◌, map, length, get_or, take, drop, set, Some, None, sym, ap, ◌∙◌, ⊎_elim, arith, length-append, length-drop, length-take}
 use Rattle.std.proofs.Math.Seq.{take-set-lt}
 use Rattle.std.proofs.lemmas.List.Edits.{map_over_more}
 use Rattle.std.proofs.lemmas.List.{take_all, drop_all, append-nil, length-map, get_or_default, length-take-le, take_more_set}
-use Rattle.std.proofs.lemmas.Bool.{lt-ltb, le-ltb, cond-true, cond-false}
+use Rattle.std.proofs.lemmas.Bool.{cases_lt, lt-ltb, le-ltb, cond-true, cond-false}
 use Rattle.record_list.specs.Lists.{next_place, pushed}
+
+-- as many slots as there are entries are the entries
+pub take_used : {E : Type 0} (used : ℕ) (slots : List E) → take (length (take used slots)) slots ≡ take used slots
+take_used used slots =
+    ⊎_elim
+    (λ (h : used < length slots). ap (λ n. take n slots) (let e : length (take used slots) ≡ used = omega (arith, length-take used slots) in e))
+    (λ (h : length slots ≤ used). take_all (length (take used slots)) slots (omega (arith, length-take used slots)) ∙ sym (take_all used slots h))
+    (cases_lt used (length slots))
 
 -- writing an entry writes it among the entries
 pub take_set : {E : Type 0} (used : ℕ) (slots : List E) (i : ℕ) (e : E) → i < length (take used slots) → take used (set slots i e) ≡ set (take used slots) i e

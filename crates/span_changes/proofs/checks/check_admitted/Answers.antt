@@ -1,0 +1,51 @@
+use Rattle.std.proofs.Common.{◌≡◌, Some, None, sym, ap, ◌∙◌, arith}
+use Rattle.std.proofs.lemmas.Bool.{cond-true}
+use Rattle.book.specs.Grid.{in_range}
+use Rattle.book.specs.Numbers.{admission_number}
+use Rattle.book.specs.declared.answers.Admission.TheVariants.{Yes, No}
+use Rattle.book.proofs.Grids.{range_from}
+use Rattle.book.proofs.Changes.{held_inside}
+use Rattle.book.proofs.Told.{admission_once}
+use Rattle.refusals.specs.declared.refusal.Refusal.TheVariants.{NotAdmitted}
+use Rattle.span_changes.specs.Spans.{barred_at, unadmitted, count}
+use Rattle.span_changes.proofs.Alike.{rows, barred_row}
+use Rattle.span_changes.proofs.Firsts.{clear_more, first_hit, first_miss}
+use Rattle.span_changes.proofs.checks.check_admitted.Goals as goal
+use Rattle.span_changes.proofs.checks.check_admitted.Goals.{in-Some+in-default-admits, in-default}
+
+pub returns-in-No : goal.returns-in-No
+returns-in-No g c other r e f =
+    let m = g.Q.Quantity.measure in
+    let held = g.B.Book.holdings c.args.book.now in
+    let admission = g.B.Book.admission c.args.book.now in
+    let p = c.args.provider in
+    let q = c.args.quantity in
+    let t = c.loop-quarter.quarter in
+    let sum = c.in-Some.sum in
+    let cause = c.in-No.cause in
+    let inside = range_from p t (omega arith) (omega arith) in
+    let joined : m.joined (held p t) q ≡ Some sum = sym (c.join.ensures ∙ ap (λ x. m.joined x q) (c.holding.ensures ∙ held_inside m held p t inside)) ∙ c.in-Some.is in
+    let no : No cause ≡ admission p t sum = admission_once (No cause) (admission p t sum) (c.in-No.ensures.value ∙ ap admission_number (cond-true (in_range p t) (admission p t sum) Yes inside)) in
+    let here = barred_row m held other p q r (rows m held other e p) f admission t (Some sum) joined c.admits.ensures.alike ∙ ap (barred_at p t) (sym no) in
+    sym (first_hit (unadmitted m other admission p r) c.args.first (count c.args.first c.args.last) t (omega arith) (omega arith) (c.loop-quarter.invariant other r e f) (NotAdmitted p t cause) here)
+
+pub loop-quarter-preserved : goal.loop-quarter-preserved
+loop-quarter-preserved g c other r e f =
+    let m = g.Q.Quantity.measure in
+    let held = g.B.Book.holdings c.args.book.now in
+    let admission = g.B.Book.admission c.args.book.now in
+    let p = c.args.provider in
+    let q = c.args.quantity in
+    let t = c.loop-quarter.quarter in
+    let inside = range_from p t (omega arith) (omega arith) in
+    let joined : m.joined (held p t) q ≡ c.join.result = sym (c.join.ensures ∙ ap (λ x. m.joined x q) (c.holding.ensures ∙ held_inside m held p t inside)) in
+    let here : unadmitted m other admission p r t ≡ None = elim c.match-join.branch [
+      | in-Some+in-default-admits w ↦ barred_row m held other p q r (rows m held other e p) f admission t (Some w.in-Some.sum) (joined ∙ w.in-Some.is) w.admits.ensures.alike
+          ∙ ap (barred_at p t) (sym (admission_once Yes (admission p t w.in-Some.sum) (w.in-default-admits.ensures.value ∙ ap admission_number (cond-true (in_range p t) (admission p t w.in-Some.sum) Yes inside))))
+      | in-default w ↦ barred_row m held other p q r (rows m held other e p) f admission t None (joined ∙ w.in-default.is) tt
+    ] in
+    clear_more (unadmitted m other admission p r) c.args.first t (c.loop-quarter.invariant other r e f) here
+
+pub returns : goal.returns
+returns g c other r e f =
+    sym (first_miss (unadmitted g.Q.Quantity.measure other (g.B.Book.admission c.args.book.now) c.args.provider r) c.args.first (count c.args.first c.args.last) (λ k l h. c.loop-quarter.invariant other r e f k l (omega arith)))

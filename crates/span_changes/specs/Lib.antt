@@ -1,0 +1,3 @@
+pub mod Spans
+pub mod Ready
+pub mod Moves

@@ -1,0 +1,4 @@
+mod apply;
+mod change;
+mod checks;
+pub mod spans;
