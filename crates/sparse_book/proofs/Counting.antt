@@ -1,13 +1,12 @@
 -- How many slots are free, and how many holdings are not zero.
-use Rattle.std.proofs.Common.{◌≡◌, ℕ, suc, ◌+◌, ◌<◌, ◌≤◌, Bool, true, false, cond, ◌&&◌, eqb, List, [], ◌∷◌, ◌++◌, length, get_or, take, Some, None, Option, sym, refl, ap, ◌∙◌, arith}
+use Rattle.std.proofs.Common.{◌≡◌, ℕ, suc, ◌+◌, ◌<◌, Bool, true, false, cond, List, [], ◌∷◌, ◌++◌, length, get_or, take, Some, None, Option, sym, refl, ap, ◌∙◌, arith}
 use Rattle.std.proofs.lemmas.List.{take_more}
 use Rattle.std.specs.Option.{option_map}
 use Rattle.quantity.specs.Measure.{Measure, is_zero}
-use Rattle.book.specs.Grid.{Grid, in_range, put, taken, filled}
+use Rattle.book.specs.Grid.{taken}
 use Rattle.book.proofs.Grids.{range_parts}
 use Rattle.book.proofs.Counts.{taken_put, taken_none, nothing_zero}
-use Rattle.sparse_book.specs.declared.record.Record.{Record}
-use Rattle.sparse_book.specs.Records.{Slot, vacant, first_at, mentions, apart, records_held, vacancies}
+use Rattle.sparse_book.specs.Records.{Slot, vacant, first_at, apart, records_held, vacancies}
 use Rattle.sparse_book.proofs.Slots.{apart_parts, held_unmentioned}
 
 module _ {Q R : Type 0} (m : Measure Q R) where

@@ -1,12 +1,12 @@
 -- Slots after the record of a provider and quarter is freed.
-use Rattle.std.proofs.Common.{◌≡◌, ℕ, zero, suc, ◌<◌, ◌≤◌, Bool, true, false, cond, not, ◌&&◌, ◌||◌, eqb, List, [], ◌∷◌, length, get_or, set, Some, None, Option, sym, refl, ap, ◌∙◌, arith, length-set}
-use Rattle.std.proofs.lemmas.Bool.{and_parts, eqb-true, cond-true, cond-false, true≢false}
+use Rattle.std.proofs.Common.{◌≡◌, ℕ, zero, suc, Bool, true, false, cond, eqb, List, [], ◌∷◌, length, set, Some, None, Option, sym, refl, ap, ◌∙◌, length-set}
+use Rattle.std.proofs.lemmas.Bool.{and_parts, eqb-true, true≢false}
 use Rattle.std.specs.Option.{option_map}
-use Rattle.quantity.specs.Measure.{Measure, is_zero}
-use Rattle.book.specs.Grid.{Grid, in_range, put, amounts}
+use Rattle.quantity.specs.Measure.{Measure}
+use Rattle.book.specs.Grid.{Grid, put, amounts}
 use Rattle.book.proofs.Grids.{put_same}
 use Rattle.sparse_book.specs.declared.record.Record.{Record}
-use Rattle.sparse_book.specs.Records.{Slot, keyed, vacant, first_at, mentions, apart, records_held, released}
+use Rattle.sparse_book.specs.Records.{Slot, keyed, first_at, mentions, apart, records_held, released}
 use Rattle.book.proofs.Changes.{amounts_put}
 use Rattle.sparse_book.proofs.Grids.{put_again, put_other}
 use Rattle.sparse_book.proofs.Slots.{apart_parts, apart_from, unmentioned, unmentioned_from, held_unmentioned}

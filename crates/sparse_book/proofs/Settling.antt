@@ -1,14 +1,14 @@
 -- What the slots tell after a holding has become q, and when there is no place for it.
-use Rattle.std.proofs.Common.{◌≡◌, ℕ, ◌<◌, ◌≤◌, Bool, true, false, cond, not, ◌&&◌, leb, List, [], ◌∷◌, length, get_or, set, Some, None, Option, sym, refl, ap, ◌∙◌, subst, arith, length-set}
-use Rattle.std.proofs.lemmas.Bool.{and_from, and_left, and_right, cond-true, cond-false, le-leb, lt-leb, not_from_true, not_from_false, both_ways}
+use Rattle.std.proofs.Common.{◌≡◌, ℕ, ◌<◌, Bool, true, false, cond, not, ◌&&◌, leb, List, length, get_or, set, Some, None, Option, sym, refl, ap, ◌∙◌, arith, length-set}
+use Rattle.std.proofs.lemmas.Bool.{and_left, and_right, cond-false, le-leb, lt-leb, not_from_true, both_ways}
 use Rattle.quantity.specs.Measure.{Measure, is_zero}
-use Rattle.book.specs.Grid.{Grid, in_range, put, amounts, taken}
-use Rattle.book.specs.Calls.{everything, full, crowded, unless, change_refusal, changed}
+use Rattle.book.specs.Grid.{in_range, put, taken}
+use Rattle.book.specs.Calls.{everything, full, crowded, change_refusal}
 use Rattle.book.specs.declared.answers.BookRefusal.{BookRefusal}
 use Rattle.book.specs.declared.answers.BookRefusal.TheVariants.{NoFreePlace}
 use Rattle.book.proofs.Counts.{nothing_zero}
 use Rattle.sparse_book.specs.declared.record.Record.{Record}
-use Rattle.sparse_book.specs.Records.{Slot, keyed, vacant, first_at, mentions, apart, records_held, vacancies, told_by_place, released, place_for, written, settled, changed_slots}
+use Rattle.sparse_book.specs.Records.{Slot, keyed, vacant, first_at, apart, records_held, vacancies, told_by_place, released, place_for, written, settled}
 use Rattle.sparse_book.proofs.Firsts.{found_at}
 use Rattle.sparse_book.proofs.Grids.{put_again}
 use Rattle.sparse_book.proofs.Slots.{held_told}

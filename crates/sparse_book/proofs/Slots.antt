@@ -1,13 +1,13 @@
 -- Slots and what they tell.
-use Rattle.std.proofs.Common.{◌≡◌, ℕ, zero, suc, ◌+◌, ◌<◌, ◌≤◌, Bool, true, false, cond, not, ◌&&◌, ◌||◌, eqb, List, [], ◌∷◌, map, length, get_or, take, set, Some, None, Option, sym, refl, ap, ◌∙◌, arith}
-use Rattle.std.proofs.lemmas.Bool.{and_parts, and_from, and_left, and_right, or_parts, or_from, or_left, or_right, eq-eqb, eqb-true, cond-true, cond-false, both_ways, not-true, not_from_true, not_from_false, true≢false}
+use Rattle.std.proofs.Common.{◌≡◌, ℕ, suc, Bool, true, false, cond, not, ◌&&◌, eqb, List, [], ◌∷◌, Some, None, Option, sym, refl, ap, ◌∙◌, arith}
+use Rattle.std.proofs.lemmas.Bool.{and_parts, and_from, or_parts, or_from, eqb-true, not-true, not_from_false, true≢false}
 use Rattle.std.proofs.lemmas.Bool.Decides.{nat_tests}
 use Rattle.std.specs.Option.{option_map}
-use Rattle.quantity.specs.Measure.{Measure, is_zero}
-use Rattle.book.specs.Grid.{Grid, in_range, put, amounts, taken}
-use Rattle.book.proofs.Grids.{put_here, put_there, put_same}
+use Rattle.quantity.specs.Measure.{Measure}
+use Rattle.book.specs.Grid.{in_range, put}
+use Rattle.book.proofs.Grids.{put_here, put_there}
 use Rattle.sparse_book.specs.declared.record.Record.{Record}
-use Rattle.sparse_book.specs.Records.{Slot, keyed, vacant, first_at, mentions, apart, records_held, vacancies, told_by_slot, told_by_place}
+use Rattle.sparse_book.specs.Records.{Slot, keyed, first_at, mentions, apart, records_held, told_by_place}
 
 -- the parts of a record's being apart
 pub apart_parts : {R : Type 0} (r : Record R) (ss : List (Slot R)) → apart (Some r ∷ ss) ≡ true → (in_range r.provider r.quarter ≡ true) × (mentions r.provider r.quarter ss ≡ false) × (apart ss ≡ true)

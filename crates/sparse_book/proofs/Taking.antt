@@ -1,12 +1,10 @@
 -- Slots after a free one takes the record of a provider and quarter.
-use Rattle.std.proofs.Common.{◌≡◌, ℕ, zero, suc, ◌<◌, ◌≤◌, Bool, true, false, cond, not, ◌&&◌, eqb, ◌⊎◌, List, [], ◌∷◌, length, get_or, set, Some, None, Option, sym, refl, ap, ◌∙◌, inl, inr, ⊎_elim, arith}
-use Rattle.std.proofs.lemmas.List.{get_or-set_same, get_or-set_other}
-use Rattle.std.proofs.lemmas.Bool.{cases_eq}
-use Rattle.std.proofs.lemmas.Bool.Decides.{nat_tests}
+use Rattle.std.proofs.Common.{◌≡◌, ℕ, zero, suc, ◌<◌, true, false, List, [], ◌∷◌, length, get_or, set, Some, None, Option, sym, refl, ap, ◌∙◌, arith}
+use Rattle.std.proofs.lemmas.List.{get_or-set_same}
 use Rattle.quantity.specs.Measure.{Measure, is_zero}
-use Rattle.book.specs.Grid.{Grid, in_range, put, amounts}
+use Rattle.book.specs.Grid.{in_range, put}
 use Rattle.sparse_book.specs.declared.record.Record.{Record}
-use Rattle.sparse_book.specs.Records.{Slot, keyed, vacant, mentions, apart, records_held, released}
+use Rattle.sparse_book.specs.Records.{Slot, vacant, mentions, apart, records_held, released}
 use Rattle.book.proofs.Changes.{amounts_put}
 use Rattle.sparse_book.proofs.Slots.{apart_parts, apart_from, unmentioned, key_turned}
 use Rattle.sparse_book.proofs.Freeing.{mentions_set, held_amounts, unheld, under}

@@ -1,8 +1,7 @@
-use Rattle.std.proofs.Common.{◌≡◌, true, false, cond, length, set, Some, None, unwrap_or, sym, refl, ap, ◌∙◌, length-set}
+use Rattle.std.proofs.Common.{◌≡◌, true, false, length, set, Some, None, unwrap_or, sym, refl, ap, ◌∙◌}
 use Rattle.quantity.specs.Measure.{is_zero}
 use Rattle.book.specs.Grid.{put, amounts}
-use Rattle.sparse_book.specs.Records.{records_held, apart, place_for, settled, changed_slots, released, told_by_place, first_at, keyed, vacant}
-use Rattle.sparse_book.proofs.Freeing.{length_released}
+use Rattle.sparse_book.specs.Records.{records_held, apart, place_for, settled, changed_slots, released, first_at, keyed}
 use Rattle.sparse_book.proofs.Settling.{settled_zero, settled_at, place_found, zero_amounts, zero_apart, some_amounts, some_apart, zero_answer, some_answer, full_answer, settled_length}
 use Rattle.sparse_book.proofs.records.change.Goals as goal
 
@@ -24,8 +23,8 @@ returns-then-equals g c =
       places = ap length now ∙ settled_length m ss p t q;
     }
 
-pub returns-in-default-place-of : goal.returns-in-default-place-of
-returns-in-default-place-of g c =
+pub returns-in_default-place_of : goal.returns-in_default-place_of
+returns-in_default-place_of g c =
     let m = g.K.Quantity.measure in
     let ss = c.args.slots.now in
     let p = c.args.provider in
@@ -33,9 +32,9 @@ returns-in-default-place-of g c =
     let q = c.in-Some.quantity in
     let z : is_zero m q ≡ false = ap (m.alike q) (sym c.zero.ensures) ∙ sym c.if-equals.ensures in
     let told : c.find-told.result ≡ first_at (keyed p t) ss = c.find-told.ensures in
-    let found : c.place-of.result ≡ place_for m ss p t q = place_found m ss p t q z c.find-told.result c.place-of.result told c.place-of.ensures in
+    let found : c.place_of.result ≡ place_for m ss p t q = place_found m ss p t q z c.find-told.result c.place_of.result told c.place_of.ensures in
     record {
-      answer = full_answer m ss p t q c.requires.1 c.args.refusal c.args.new c.in-Some.is z (sym found ∙ c.in-default-place-of.is);
+      answer = full_answer m ss p t q c.requires.1 c.args.refusal c.args.new c.in-Some.is z (sym found ∙ c.in_default-place_of.is);
       slots = refl;
       after = refl;
       apart = c.requires.1;
@@ -49,10 +48,10 @@ returns g c =
     let p = c.args.provider in
     let t = c.args.quarter in
     let q = c.in-Some.quantity in
-    let i = c.in-Some-place-of.i in
+    let i = c.in-Some-place_of.i in
     let z : is_zero m q ≡ false = ap (m.alike q) (sym c.zero.ensures) ∙ sym c.if-equals.ensures in
     let told : c.find-told.result ≡ first_at (keyed p t) ss = c.find-told.ensures in
-    let found : place_for m ss p t q ≡ Some i = sym (place_found m ss p t q z c.find-told.result c.place-of.result told c.place-of.ensures) ∙ c.in-Some-place-of.is in
+    let found : place_for m ss p t q ≡ Some i = sym (place_found m ss p t q z c.find-told.result c.place_of.result told c.place_of.ensures) ∙ c.in-Some-place_of.is in
     let now : c.write.new.slots ≡ settled m ss p t q =
     c.write.ensures
     ∙ (ap (λ xs. set xs i (Some (record { provider = p; quarter = t; row = c.row-row.result }))) (c.release-2.ensures ∙ ap (λ o. released o ss) told)

@@ -7,12 +7,12 @@ use Rattle.book.proofs.Changes.{held_inside, raise_outside, raise_outside_after,
 use Rattle.sparse_book.specs.Records.{records_held, changed_slots, raised_slots}
 use Rattle.sparse_book.proofs.records.raise.Goals as goal
 
-pub returns-then-not-in-range : goal.returns-then-not-in-range
+pub returns-then-not-in_range : goal.returns-then-not-in_range
 unfolding raised_slots
-returns-then-not-in-range g c =
+returns-then-not-in_range g c =
     let m = g.K.Quantity.measure in
     let ss = c.args.slots.now in
-    let out : in_range c.args.provider c.args.quarter ≡ false = sym c.if-not-in-range.ensures in
+    let out : in_range c.args.provider c.args.quarter ≡ false = sym c.if-not-in_range.ensures in
     let why = raise_outside m (records_held m ss) (length ss) c.args.provider c.args.quarter c.args.quantity everything out in
     record {
       answer = ap answer_number (sym why);
@@ -29,7 +29,7 @@ returns g c =
     let ss = c.args.slots.now in
     let p = c.args.provider in
     let t = c.args.quarter in
-    let inside : in_range p t ≡ true = sym c.if-not-in-range.ensures in
+    let inside : in_range p t ≡ true = sym c.if-not-in_range.ensures in
     let new : c.join-sum.result ≡ m.joined (held_at m (records_held m ss) p t) c.args.quantity =
     c.join-sum.ensures ∙ ap (λ x. m.joined x c.args.quantity) c.holding.ensures in
     let why : result_err c.change.result ≡ raise_refusal m (records_held m ss) (length ss) everything p t c.args.quantity =

@@ -1,4 +1,4 @@
-use Rattle.std.proofs.Common.{◌≡◌, None, sym, ap, ◌∙◌}
+use Rattle.std.proofs.Common.{None, sym, ap, ◌∙◌}
 use Rattle.std.proofs.lemmas.List.{get_or_past}
 use Rattle.sparse_book.specs.Records.{told_by_slot, told_by_place}
 use Rattle.sparse_book.proofs.records.told_at.Goals as goal

@@ -1,14 +1,14 @@
-use Rattle.std.proofs.Common.{◌≡◌, length, sym, refl, ap, ◌∙◌}
+use Rattle.std.proofs.Common.{length, ap, ◌∙◌}
 use Rattle.std.proofs.lemmas.List.{length-map}
 use Rattle.book.specs.Grid.{amounts}
 use Rattle.sparse_book.specs.Records.{apart, records_held}
 use Rattle.sparse_book.proofs.Blank.{blank_apart, blank_empty}
 use Rattle.sparse_book.proofs.lent.SparseBook.blank.Goals as goal
 
-pub invariant-of-result : goal.invariant-of-result
-invariant-of-result g c =
+pub invariant_of-result : goal.invariant_of-result
+invariant_of-result g c =
     let full = c.filled-records.ensures.slots ∙ c.filled-records.ensures.contents in
-    (ap apart (full) ∙ blank_apart c.args.slots.now, tt)
+    record { apart = ap apart (full) ∙ blank_apart c.args.slots.now }
 
 pub returns : goal.returns
 returns g c =

@@ -1,19 +1,19 @@
-use Rattle.std.proofs.Common.{◌≡◌, ◌-◌, [], ◌++◌, length, take, replicate, None, vec_items, vec_len, sym, refl, ap, ◌∙◌, arith}
+use Rattle.std.proofs.Common.{vec_items, ap, ◌∙◌, arith}
 use Rattle.book.specs.Grid.{amounts}
-use Rattle.sparse_book.specs.Records.{Slot, apart, records_held}
+use Rattle.sparse_book.specs.Records.{apart, records_held}
 use Rattle.sparse_book.proofs.Blank.{free_apart, free_empty, resized}
 use Rattle.sparse_book.proofs.stored.StoredSparseBook.new.Goals as goal
 
-pub invariant-of-result : goal.invariant-of-result
-invariant-of-result g c =
-    let all = c.in-ok-resize.ensures.items ∙ resized (vec_items c.new-slots.result) c.new-slots.ensures.items c.args.places _ in
-    (ap apart all ∙ free_apart _ _, tt)
+pub invariant_of-result : goal.invariant_of-result
+invariant_of-result g c =
+    let all = c.in_ok-resize.ensures.items ∙ resized (vec_items c.new-slots.result) c.new-slots.ensures.items c.args.places _ in
+    record { apart = ap apart all ∙ free_apart _ _ }
 
 pub returns : goal.returns
 returns g c =
     let m = g.K.Quantity.measure in
-    let all = c.in-ok-resize.ensures.items ∙ resized (vec_items c.new-slots.result) c.new-slots.ensures.items c.args.places _ in
+    let all = c.in_ok-resize.ensures.items ∙ resized (vec_items c.new-slots.result) c.new-slots.ensures.items c.args.places _ in
     record {
       empty = ap (λ ss. amounts m (records_held m ss)) all ∙ free_empty m _;
-      places = omega (arith, c.in-ok-resize.ensures.len, c.resize.new.self.ok.0);
+      places = omega (arith, c.in_ok-resize.ensures.len, c.resize.new.self.ok.0);
     }

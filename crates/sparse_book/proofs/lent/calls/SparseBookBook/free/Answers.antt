@@ -1,4 +1,4 @@
-use Rattle.std.proofs.Common.{◌≡◌, ◌+◌, ap, ◌∙◌}
+use Rattle.std.proofs.Common.{◌+◌, ap, ◌∙◌}
 use Rattle.book.specs.Grid.{taken}
 use Rattle.sparse_book.specs.Records.{records_held}
 use Rattle.sparse_book.proofs.Counting.{free_and_taken}

@@ -1,4 +1,4 @@
-use Rattle.std.proofs.Common.{◌≡◌, ◌+◌, vec_items, ap, ◌∙◌}
+use Rattle.std.proofs.Common.{◌+◌, vec_items, ap, ◌∙◌}
 use Rattle.book.specs.Grid.{taken}
 use Rattle.sparse_book.specs.Records.{records_held, vacancies}
 use Rattle.sparse_book.proofs.Counting.{free_and_taken}
@@ -8,4 +8,4 @@ pub returns : goal.returns
 returns g c =
     let m = g.K.Quantity.measure in
     let ss = vec_items c.args.self.now.slots in
-    ap (λ n. n + taken m (records_held m ss)) (c.free.ensures ∙ ap (vacancies m) c.as-slice.ensures.value) ∙ free_and_taken m ss c.args.self.now.apart
+    ap (λ n. n + taken m (records_held m ss)) (c.free.ensures ∙ ap (vacancies m) c.as_slice.ensures.value) ∙ free_and_taken m ss c.args.self.now.apart

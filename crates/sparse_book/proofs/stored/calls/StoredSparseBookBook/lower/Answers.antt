@@ -1,23 +1,23 @@
-use Rattle.std.proofs.Common.{◌≡◌, length, drop, vec_items, sym, refl, ap, ◌∙◌, arith}
+use Rattle.std.proofs.Common.{◌≡◌, length, drop, refl, ap, ◌∙◌, arith}
 use Rattle.std.proofs.lemmas.List.{take_at}
 use Rattle.book.specs.Grid.{amounts}
 use Rattle.book.specs.Numbers.{answer_number}
-use Rattle.book.specs.Calls.{everything, lower_refusal, lowered}
+use Rattle.book.specs.Calls.{lower_refusal, lowered}
 use Rattle.sparse_book.specs.Records.{apart, records_held, lowered_slots}
 use Rattle.sparse_book.proofs.stored.calls.StoredSparseBookBook.lower.Goals as goal
 
 pub lower-requires : goal.lower-requires
-lower-requires g c = ap apart c.as-mut-slice.ensures.value ∙ c.args.self.now.apart
+lower-requires g c = ap apart c.as_mut_slice.ensures.value ∙ c.args.self.now.apart
 
-pub invariant-of-self : goal.invariant-of-self
-invariant-of-self g c =
+pub invariant_of-self : goal.invariant_of-self
+invariant_of-self g c =
     let size : length c.lower.new.slots ≡ c.args.self.now.slots.len = omega arith in
-    (ap apart (take_at c.lower.new.slots (drop (length c.lower.new.slots) c.args.self.now.slots.items) c.args.self.now.slots.len size) ∙ c.lower.ensures.apart, tt)
+    record { apart = ap apart (take_at c.lower.new.slots (drop (length c.lower.new.slots) c.args.self.now.slots.items) c.args.self.now.slots.len size) ∙ c.lower.ensures.apart }
 
 pub returns : goal.returns
 returns g c =
     let m = g.K.Quantity.measure in
-    let lent = c.as-mut-slice.ensures.value in
+    let lent = c.as_mut_slice.ensures.value in
     let size : length c.lower.new.slots ≡ c.args.self.now.slots.len = omega arith in
     let back = take_at c.lower.new.slots (drop (length c.lower.new.slots) c.args.self.now.slots.items) c.args.self.now.slots.len size in
     record {

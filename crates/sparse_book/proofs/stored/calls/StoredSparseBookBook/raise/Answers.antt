@@ -1,4 +1,4 @@
-use Rattle.std.proofs.Common.{◌≡◌, length, drop, vec_items, sym, refl, ap, ◌∙◌, arith}
+use Rattle.std.proofs.Common.{◌≡◌, length, drop, refl, ap, ◌∙◌, arith}
 use Rattle.std.proofs.lemmas.List.{take_at}
 use Rattle.book.specs.Grid.{amounts}
 use Rattle.book.specs.Numbers.{answer_number}
@@ -7,17 +7,17 @@ use Rattle.sparse_book.specs.Records.{apart, records_held, raised_slots}
 use Rattle.sparse_book.proofs.stored.calls.StoredSparseBookBook.raise.Goals as goal
 
 pub raise-requires : goal.raise-requires
-raise-requires g c = ap apart c.as-mut-slice.ensures.value ∙ c.args.self.now.apart
+raise-requires g c = ap apart c.as_mut_slice.ensures.value ∙ c.args.self.now.apart
 
-pub invariant-of-self : goal.invariant-of-self
-invariant-of-self g c =
+pub invariant_of-self : goal.invariant_of-self
+invariant_of-self g c =
     let size : length c.raise.new.slots ≡ c.args.self.now.slots.len = omega arith in
-    (ap apart (take_at c.raise.new.slots (drop (length c.raise.new.slots) c.args.self.now.slots.items) c.args.self.now.slots.len size) ∙ c.raise.ensures.apart, tt)
+    record { apart = ap apart (take_at c.raise.new.slots (drop (length c.raise.new.slots) c.args.self.now.slots.items) c.args.self.now.slots.len size) ∙ c.raise.ensures.apart }
 
 pub returns : goal.returns
 returns g c =
     let m = g.K.Quantity.measure in
-    let lent = c.as-mut-slice.ensures.value in
+    let lent = c.as_mut_slice.ensures.value in
     let size : length c.raise.new.slots ≡ c.args.self.now.slots.len = omega arith in
     let back = take_at c.raise.new.slots (drop (length c.raise.new.slots) c.args.self.now.slots.items) c.args.self.now.slots.len size in
     record {
