@@ -1,6 +1,6 @@
 -- Free places counted step by step.
-use Rattle.std.proofs.Common.{◌≡◌, ℕ, zero, suc, ◌+◌, ◌-◌, ◌<◌, ◌≤◌, Bool, true, false, is_some, Some, None, Option, sym, refl, ap, ◌∙◌, subst, add-one, arith}
-use Rattle.span_moves.specs.Spans.{step_left, then_left, left}
+use Rattle.std.proofs.Common.{◌≡◌, ℕ, zero, suc, ◌+◌, ◌≤◌, Bool, true, false, is_some, Some, None, Option, sym, refl, ap, ◌∙◌, subst, add-one, arith}
+use Rattle.span_moves.specs.Spans.{then_left, left}
 
 module _ (was will : ℕ → Bool) (free : Option ℕ) (lo : ℕ) where
   pub left_none : left was will free lo 0 ≡ free

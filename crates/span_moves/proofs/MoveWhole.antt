@@ -1,7 +1,7 @@
 -- Which refusal of a move comes, by what the checks found.
-use Rattle.std.proofs.Common.{◌≡◌, ℕ, ◌+◌, ◌-◌, List, [], ◌∷◌, ◌++◌, Some, None, Option, sym, refl, ap, ◌∙◌, arith}
+use Rattle.std.proofs.Common.{◌≡◌, ℕ, ◌+◌, List, [], ◌∷◌, ◌++◌, Some, None, Option, sym, refl, ap, ◌∙◌, arith}
 use Rattle.quantity.specs.Measure.{Measure}
-use Rattle.book.specs.Grid.{Grid, amounts, taken}
+use Rattle.book.specs.Grid.{Grid, amounts}
 use Rattle.book.specs.declared.answers.Admission.{Admission}
 use Rattle.span_moves.specs.declared.change.Change.TheVariants.{Lowering, Raising}
 use Rattle.span_moves.specs.declared.refusal.SpanRefusal.{SpanRefusal}

@@ -1,18 +1,14 @@
 -- A span that is lowered for the giver and then raised for the taker.
-use Rattle.std.proofs.Common.{◌≡◌, ℕ, zero, suc, ◌+◌, ◌-◌, ◌<◌, ◌≤◌, Bool, true, false, cond, not, ◌&&◌, eqb, ltb, leb, List, [], ◌∷◌, is_some, Some, None, Option, unwrap_or, sym, refl, ap, ◌∙◌, subst, arith}
+use Rattle.std.proofs.Common.{◌≡◌, ℕ, zero, suc, ◌+◌, ◌<◌, ◌≤◌, Bool, true, false, cond, ◌&&◌, eqb, ltb, leb, is_some, Some, Option, unwrap_or, sym, refl, ap, ◌∙◌, arith}
 use mathlib.Core.Path.{fun_ext}
-use Rattle.std.proofs.lemmas.Bool.{and_parts, and_left, eqb-true, ne_eqb, leb-true, ltb-true, cond-true, cond-false, both_ways}
-use Rattle.std.proofs.lemmas.Bool.Decides.{nat_tests}
+use Rattle.std.proofs.lemmas.Bool.{and_parts, and_left, eqb-true, ne_eqb, leb-true, ltb-true, cond-false}
 use Rattle.quantity.specs.Measure.{Measure, is_zero}
-use Rattle.book.specs.Grid.{Grid, amounts, taken}
+use Rattle.book.specs.Grid.{Grid, amounts}
 use Rattle.book.specs.declared.answers.Admission.{Admission}
 use Rattle.book.specs.declared.answers.Admission.TheVariants.{Yes}
-use Rattle.span_moves.specs.declared.change.Change.{Change}
 use Rattle.span_moves.specs.declared.change.Change.TheVariants.{Lowering, Raising}
-use Rattle.span_moves.specs.declared.refusal.SpanRefusal.{SpanRefusal}
-use Rattle.span_moves.specs.Spans.{next, then_left, left, first_some, first_of, crowding, count, unless_refused, no_provider, no_span, one_provider, becomes, unfit, unadmitted, spanned, left_after}
-use Rattle.span_moves.specs.Ready.{Welcome, Ready}
-use Rattle.span_moves.specs.Moves.{free_places, move_refusal, moved, move_after, share, Passed}
+use Rattle.span_moves.specs.Spans.{next, then_left, left, count, becomes, spanned, left_after}
+use Rattle.span_moves.specs.Moves.{moved, share, Passed}
 use Rattle.span_moves.proofs.Alike.{some_from, zero_alike, next_is, next_alike}
 use Rattle.span_moves.proofs.Spanned.{within}
 

@@ -1,5 +1,5 @@
 -- The first refusal of a list, and what its number tells.
-use Rattle.std.proofs.Common.{◌≡◌, ℕ, List, [], ◌∷◌, Some, None, Option, sym, refl, ap, ◌∙◌, arith}
+use Rattle.std.proofs.Common.{◌≡◌, ℕ, List, [], ◌∷◌, Some, None, Option, sym, refl, ap, arith}
 use Rattle.span_moves.specs.declared.refusal.SpanRefusal.{SpanRefusal}
 use Rattle.span_moves.specs.declared.refusal.SpanRefusal.TheVariants.{NoSuchProvider, NoSuchSpan, SameProvider, NoRemainder, SumDoesNotFit, NotAdmitted, NoFreePlace}
 use Rattle.span_moves.specs.Numbers.{span_number}

@@ -1,18 +1,18 @@
 -- One quarter of a span that is ready to be changed.
-use Rattle.std.proofs.Common.{◌≡◌, ℕ, zero, suc, ◌+◌, ◌-◌, ◌<◌, ◌≤◌, Bool, true, false, cond, not, ◌&&◌, leb, is_some, Some, None, Option, unwrap_or, sym, refl, ap, ◌∙◌, subst, arith}
-use Rattle.std.proofs.lemmas.Bool.{and_right, lt-leb, true≢false}
+use Rattle.std.proofs.Common.{◌≡◌, ℕ, zero, suc, ◌+◌, ◌-◌, ◌≤◌, Bool, true, false, cond, not, ◌&&◌, leb, is_some, Some, None, unwrap_or, sym, refl, ap, ◌∙◌, arith}
+use Rattle.std.proofs.lemmas.Bool.{lt-leb, true≢false}
 use Rattle.quantity.specs.Measure.{Measure, is_zero}
 use Rattle.book.specs.Grid.{Grid, in_range, put, amounts, taken, filled}
-use Rattle.book.specs.Calls.{everything, barred, full, crowded, change_refusal, changed, raise_refusal, lower_refusal, raised, lowered}
+use Rattle.book.specs.Calls.{everything, barred, full, crowded, change_refusal, changed, raise_refusal, lower_refusal}
 use Rattle.book.specs.declared.answers.Admission.{Admission}
-use Rattle.book.specs.declared.answers.Admission.TheVariants.{Yes, No}
+use Rattle.book.specs.declared.answers.Admission.TheVariants.{Yes}
 use Rattle.book.specs.declared.answers.BookRefusal.TheVariants.{SumDoesNotFit, NoRemainder}
 use Rattle.book.proofs.Grids.{range_from}
 use Rattle.book.proofs.Counts.{taken_put}
 use Rattle.book.proofs.Changes.{raise_inside, lower_inside, raised_is, lowered_is, amounts_put}
 use Rattle.span_moves.specs.declared.change.Change.{Change}
 use Rattle.span_moves.specs.declared.change.Change.TheVariants.{Lowering, Raising}
-use Rattle.span_moves.specs.Spans.{next, step_left, then_left, becomes, spanned, left, left_after, count}
+use Rattle.span_moves.specs.Spans.{next, step_left, then_left, becomes, spanned, left_after, count}
 use Rattle.span_moves.specs.Ready.{changed_one, Welcome, Ready}
 use Rattle.span_moves.proofs.Lefts.{left_more, left_before}
 use Rattle.span_moves.proofs.Alike.{some_from, zero_alike, next_alike, taken_alike}

@@ -1,14 +1,14 @@
 -- Which refusal of a span comes, by what the checks found.
-use Rattle.std.proofs.Common.{◌≡◌, ℕ, ◌+◌, ◌-◌, ◌<◌, ◌≤◌, Bool, true, false, cond, ◌&&◌, eqb, ltb, leb, List, [], ◌∷◌, Some, None, Option, sym, refl, ap, ◌∙◌, arith}
+use Rattle.std.proofs.Common.{◌≡◌, ℕ, ◌+◌, ◌<◌, ◌≤◌, ◌&&◌, ltb, leb, [], ◌∷◌, Some, None, Option, sym, ap, ◌∙◌, arith}
 use Rattle.std.proofs.lemmas.Bool.{cond-true, cond-false, and_from, lt-ltb, le-ltb, le-leb}
 use Rattle.std.proofs.lemmas.Bool.Decides.{nat_tests}
 use Rattle.quantity.specs.Measure.{Measure}
-use Rattle.book.specs.Grid.{Grid, amounts, taken}
+use Rattle.book.specs.Grid.{Grid, amounts}
 use Rattle.book.specs.declared.answers.Admission.{Admission}
 use Rattle.span_moves.specs.declared.change.Change.{Change}
 use Rattle.span_moves.specs.declared.refusal.SpanRefusal.{SpanRefusal}
-use Rattle.span_moves.specs.declared.refusal.SpanRefusal.TheVariants.{NoSuchProvider, NoSuchSpan, SameProvider, NoFreePlace}
-use Rattle.span_moves.specs.Spans.{first_some, first_of, crowding, count, unless_refused, no_provider, no_span, one_provider, unfit, spanned, left_after}
+use Rattle.span_moves.specs.declared.refusal.SpanRefusal.TheVariants.{NoSuchProvider, NoSuchSpan, NoFreePlace}
+use Rattle.span_moves.specs.Spans.{first_some, first_of, crowding, count, unless_refused, no_provider, no_span, unfit, spanned, left_after}
 use Rattle.span_moves.specs.Moves.{unwelcome, free_places, span_refusal, span_after}
 use Rattle.span_moves.proofs.Refusals.{pass, stop}
 

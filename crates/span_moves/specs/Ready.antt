@@ -1,5 +1,5 @@
 -- When every holding of a span can be changed.
-use Rattle.std.specs.Prelude.{◌≡◌, ℕ, ◌-◌, ◌<◌, ◌≤◌, true, is_some, Some, Option}
+use Rattle.std.specs.Prelude.{◌≡◌, ℕ, ◌-◌, ◌<◌, ◌≤◌, true, is_some, Some}
 use Rattle.quantity.specs.Measure.{Measure}
 use Rattle.book.specs.Grid.{Grid, taken}
 use Rattle.book.specs.Calls.{raised, lowered}

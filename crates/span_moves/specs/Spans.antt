@@ -1,8 +1,8 @@
 -- What changes of a span of quarters answer and change.
-use Rattle.std.specs.Prelude.{◌≡◌, ℕ, zero, suc, ◌+◌, ◌-◌, Bool, true, false, cond, not, ◌&&◌, ◌||◌, List, [], ◌∷◌, Some, None, Option, ◌==◌, nat_le, nat_lt}
+use Rattle.std.specs.Prelude.{ℕ, zero, suc, ◌+◌, ◌-◌, Bool, true, false, cond, ◌&&◌, List, [], ◌∷◌, Some, None, Option, ◌==◌, nat_le, nat_lt}
 use Rattle.std.specs.Option.{unwrap_or}
 use Rattle.quantity.specs.Measure.{Measure, is_zero}
-use Rattle.book.specs.Grid.{Grid, amounts, taken}
+use Rattle.book.specs.Grid.{Grid}
 use Rattle.book.specs.declared.answers.Admission.{Admission}
 use Rattle.book.specs.declared.answers.Admission.TheVariants.{Yes, No}
 use Rattle.span_moves.specs.declared.change.Change.{Change}

@@ -1,8 +1,8 @@
-use Rattle.std.proofs.Common.{◌≡◌, List, ◌∷◌, Some, None, sym, refl, ap, ◌∙◌, arith}
+use Rattle.std.proofs.Common.{◌≡◌, ◌∷◌, Some, sym, ap, ◌∙◌, arith}
 use Rattle.std.proofs.lemmas.Bool.{cond-true}
 use Rattle.book.specs.Grid.{in_range}
 use Rattle.book.specs.Numbers.{admission_number}
-use Rattle.book.specs.declared.answers.Admission.TheVariants.{Yes, No}
+use Rattle.book.specs.declared.answers.Admission.TheVariants.{Yes}
 use Rattle.book.proofs.Grids.{range_from}
 use Rattle.book.proofs.Changes.{held_inside}
 use Rattle.book.proofs.Told.{admission_no}
@@ -14,7 +14,7 @@ use Rattle.span_moves.proofs.checks.check_admitted.Goals as goal
 
 pub returns-in-No : goal.returns-in-No
 returns-in-No g c =
-    let m = g.Q.Quantity.measure in
+    let m = g.B.Q.Quantity.measure in
     let held = g.B.Book.holdings c.args.book.now in
     let admission = g.B.Book.admission c.args.book.now in
     let p = c.args.provider in
@@ -29,7 +29,7 @@ returns-in-No g c =
 
 pub returns : goal.returns
 returns g c =
-    let m = g.Q.Quantity.measure in
+    let m = g.B.Q.Quantity.measure in
     let held = g.B.Book.holdings c.args.book.now in
     let admission = g.B.Book.admission c.args.book.now in
     record {

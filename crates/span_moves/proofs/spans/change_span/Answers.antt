@@ -1,11 +1,9 @@
-use Rattle.std.proofs.Common.{◌≡◌, ℕ, ◌+◌, ◌-◌, ◌<◌, ◌≤◌, true, false, is_some, Some, None, sym, refl, ap, ◌∙◌, arith}
+use Rattle.std.proofs.Common.{◌≡◌, ◌-◌, ◌<◌, ◌≤◌, is_some, Some, None, sym, refl, ap, ◌∙◌, arith}
 use Rattle.book.specs.Grid.{taken}
 use Rattle.span_moves.specs.declared.refusal.SpanRefusal.TheVariants.{NoSuchProvider, NoSuchSpan, NoFreePlace}
 use Rattle.span_moves.specs.Numbers.{span_number}
-use Rattle.span_moves.specs.Spans.{next, unfit, first_of, left_after, count}
-use Rattle.span_moves.specs.Ready.{Ready}
-use Rattle.span_moves.specs.Moves.{unwelcome, span_refusal}
-use Rattle.span_moves.proofs.Alike.{some_from}
+use Rattle.span_moves.specs.Spans.{unfit, first_of, left_after, count}
+use Rattle.span_moves.specs.Moves.{unwelcome}
 use Rattle.span_moves.proofs.Firsts.{none_from, first_clear, fit_next}
 use Rattle.span_moves.proofs.Refusals.{none_number, some_number}
 use Rattle.span_moves.proofs.Whole.{kept, done, no_such_provider, no_such_span, misfit_first, barred_first, no_room, taken_whole}
@@ -13,7 +11,7 @@ use Rattle.span_moves.proofs.spans.change_span.Goals as goal
 
 pub returns-then-provider-ge32 : goal.returns-then-provider-ge32
 returns-then-provider-ge32 g c =
-    let m = g.Q.Quantity.measure in
+    let m = g.B.Q.Quantity.measure in
     let held = g.B.Book.holdings c.args.book.now in
     let places = g.B.Book.places c.args.book.now in
     let admission = g.B.Book.admission c.args.book.now in
@@ -33,7 +31,7 @@ returns-then-provider-ge32 g c =
 
 pub returns-then-first-last : goal.returns-then-first-last
 returns-then-first-last g c =
-    let m = g.Q.Quantity.measure in
+    let m = g.B.Q.Quantity.measure in
     let held = g.B.Book.holdings c.args.book.now in
     let places = g.B.Book.places c.args.book.now in
     let admission = g.B.Book.admission c.args.book.now in
@@ -53,7 +51,7 @@ returns-then-first-last g c =
 
 pub returns-in-Err : goal.returns-in-Err
 returns-in-Err g c =
-    let m = g.Q.Quantity.measure in
+    let m = g.B.Q.Quantity.measure in
     let held = g.B.Book.holdings c.args.book.now in
     let places = g.B.Book.places c.args.book.now in
     let admission = g.B.Book.admission c.args.book.now in
@@ -74,9 +72,9 @@ returns-in-Err g c =
       layer = refl;
     }
 
-pub returns-in-Err-check-welcome : goal.returns-in-Err-check-welcome
-returns-in-Err-check-welcome g c =
-    let m = g.Q.Quantity.measure in
+pub returns-in-Err-check_welcome : goal.returns-in-Err-check_welcome
+returns-in-Err-check_welcome g c =
+    let m = g.B.Q.Quantity.measure in
     let held = g.B.Book.holdings c.args.book.now in
     let places = g.B.Book.places c.args.book.now in
     let admission = g.B.Book.admission c.args.book.now in
@@ -88,19 +86,19 @@ returns-in-Err-check-welcome g c =
     let hp : p < 32 = omega arith in
     let hs : first ≤ last = omega arith in
     let hl : last < 100 = omega arith in
-    let w = some_number c.in-Err-check-welcome.barred (first_of (unwelcome m held places admission change p q) first (count first last)) c.in-Err-check-welcome.ensures.value in
-    let why = barred_first m held places admission change p first last q hp hs hl (sym c.in-default.ensures) w.0 w.1 in
+    let w = some_number c.in-Err-check_welcome.barred (first_of (unwelcome m held places admission change p q) first (count first last)) c.in-Err-check_welcome.ensures.value in
+    let why = barred_first m held places admission change p first last q hp hs hl (sym c.in_default.ensures) w.0 w.1 in
     record {
-      answer = c.in-Err-check-welcome.ensures.value ∙ ap span_number (w.1 ∙ sym why);
+      answer = c.in-Err-check_welcome.ensures.value ∙ ap span_number (w.1 ∙ sym why);
       after = kept m held places admission change p first last q w.0 why;
       places = refl;
       admission = refl;
       layer = refl;
     }
 
-pub returns-then-is-none : goal.returns-then-is-none
-returns-then-is-none g c =
-    let m = g.Q.Quantity.measure in
+pub returns-then-is_none : goal.returns-then-is_none
+returns-then-is_none g c =
+    let m = g.B.Q.Quantity.measure in
     let held = g.B.Book.holdings c.args.book.now in
     let places = g.B.Book.places c.args.book.now in
     let admission = g.B.Book.admission c.args.book.now in
@@ -112,10 +110,10 @@ returns-then-is-none g c =
     let hp : p < 32 = omega arith in
     let hs : first ≤ last = omega arith in
     let hl : last < 100 = omega arith in
-    let bars = none_number (first_of (unwelcome m held places admission change p q) first (count first last)) c.in-default-check-welcome.ensures.value in
+    let bars = none_number (first_of (unwelcome m held places admission change p q) first (count first last)) c.in_default-check_welcome.ensures.value in
     let free : c.free-free.result ≡ places - taken m held = omega (arith, c.free-free.ensures) in
-    let gone : left_after m held change p q (Some (places - taken m held)) first (count first last) ≡ None = ap (λ k. left_after m held change p q (Some k) first (count first last)) (sym free) ∙ (sym c.count-places.ensures ∙ none_from c.count-places.result c.if-is-none.ensures) in
-    let why = no_room m held places admission change p first last q hp hs hl (sym c.in-default.ensures) bars gone in
+    let gone : left_after m held change p q (Some (places - taken m held)) first (count first last) ≡ None = ap (λ k. left_after m held change p q (Some k) first (count first last)) (sym free) ∙ (sym c.count_places.ensures ∙ none_from c.count_places.result c.if-is_none.ensures) in
+    let why = no_room m held places admission change p first last q hp hs hl (sym c.in_default.ensures) bars gone in
     record {
       answer = ap span_number (sym why);
       after = kept m held places admission change p first last q NoFreePlace why;
@@ -124,9 +122,9 @@ returns-then-is-none g c =
       layer = refl;
     }
 
-pub apply-span-requires : goal.apply-span-requires
-apply-span-requires g c =
-    let m = g.Q.Quantity.measure in
+pub apply_span-requires : goal.apply_span-requires
+apply_span-requires g c =
+    let m = g.B.Q.Quantity.measure in
     let held = g.B.Book.holdings c.args.book.now in
     let places = g.B.Book.places c.args.book.now in
     let admission = g.B.Book.admission c.args.book.now in
@@ -143,15 +141,15 @@ apply-span-requires g c =
       provider = hp;
       order = hs;
       end = hl;
-      fits = λ t l h. fit_next m held change p q t (first_clear (unfit m held change p q) first (count first last) (sym c.in-default.ensures) t l (omega arith));
-      welcome = c.in-default-check-welcome.ensures.welcome;
+      fits = λ t l h. fit_next m held change p q t (first_clear (unfit m held change p q) first (count first last) (sym c.in_default.ensures) t l (omega arith));
+      welcome = c.in_default-check_welcome.ensures.welcome;
       bound = omega (arith, c.free-free.ensures);
-      room = ap is_some (ap (λ k. left_after m held change p q (Some k) first (count first last)) (sym free) ∙ sym c.count-places.ensures) ∙ c.if-is-none.ensures;
+      room = ap is_some (ap (λ k. left_after m held change p q (Some k) first (count first last)) (sym free) ∙ sym c.count_places.ensures) ∙ c.if-is_none.ensures;
     }
 
 pub returns : goal.returns
 returns g c =
-    let m = g.Q.Quantity.measure in
+    let m = g.B.Q.Quantity.measure in
     let held = g.B.Book.holdings c.args.book.now in
     let places = g.B.Book.places c.args.book.now in
     let admission = g.B.Book.admission c.args.book.now in
@@ -163,12 +161,12 @@ returns g c =
     let hp : p < 32 = omega arith in
     let hs : first ≤ last = omega arith in
     let hl : last < 100 = omega arith in
-    let bars = none_number (first_of (unwelcome m held places admission change p q) first (count first last)) c.in-default-check-welcome.ensures.value in
-    let why = taken_whole m held places admission change p first last q hp hs hl (sym c.in-default.ensures) bars _ c.apply-span.ensures.left in
+    let bars = none_number (first_of (unwelcome m held places admission change p q) first (count first last)) c.in_default-check_welcome.ensures.value in
+    let why = taken_whole m held places admission change p first last q hp hs hl (sym c.in_default.ensures) bars _ c.apply_span.ensures.left in
     record {
       answer = ap span_number (sym why);
-      after = c.apply-span.ensures.after ∙ done m held places admission change p first last q why;
-      places = c.apply-span.ensures.places;
-      admission = c.apply-span.ensures.admission;
-      layer = c.apply-span.ensures.layer;
+      after = c.apply_span.ensures.after ∙ done m held places admission change p first last q why;
+      places = c.apply_span.ensures.places;
+      admission = c.apply_span.ensures.admission;
+      layer = c.apply_span.ensures.layer;
     }

@@ -1,10 +1,10 @@
-use Rattle.std.proofs.Common.{◌≡◌, ℕ, ◌+◌, ◌-◌, ◌<◌, ◌≤◌, true, false, is_some, Some, None, sym, refl, ap, ◌∙◌, arith}
+use Rattle.std.proofs.Common.{◌≡◌, ℕ, ◌-◌, ◌≤◌, true, is_some, Some, sym, refl, ap, ◌∙◌, arith}
 use Rattle.quantity.specs.Measure.{is_zero}
 use Rattle.book.specs.Grid.{taken}
 use Rattle.span_moves.specs.declared.change.Change.TheVariants.{Lowering, Raising}
 use Rattle.span_moves.specs.declared.refusal.SpanRefusal.TheVariants.{NoFreePlace}
 use Rattle.span_moves.specs.Numbers.{span_number}
-use Rattle.span_moves.specs.Spans.{next, becomes, unfit, unadmitted, first_of, left_after, left, count}
+use Rattle.span_moves.specs.Spans.{next, becomes, unfit, unadmitted, first_of, left_after, count}
 use Rattle.span_moves.proofs.Lefts.{left_under_some, left_nothing}
 use Rattle.span_moves.proofs.Alike.{some_from}
 use Rattle.span_moves.proofs.Firsts.{none_from, first_clear, fit_next}
@@ -15,7 +15,7 @@ use Rattle.span_moves.proofs.spans.move_span.Goals as goal
 
 pub returns-in-Err : goal.returns-in-Err
 returns-in-Err g c =
-    let m = g.Q.Quantity.measure in
+    let m = g.B.Q.Quantity.measure in
     let held = g.B.Book.holdings c.args.book.now in
     let places = g.B.Book.places c.args.book.now in
     let admission = g.B.Book.admission c.args.book.now in
@@ -34,9 +34,9 @@ returns-in-Err g c =
       layer = refl;
     }
 
-pub returns-in-Err-check-fits : goal.returns-in-Err-check-fits
-returns-in-Err-check-fits g c =
-    let m = g.Q.Quantity.measure in
+pub returns-in-Err-check_fits : goal.returns-in-Err-check_fits
+returns-in-Err-check_fits g c =
+    let m = g.B.Q.Quantity.measure in
     let held = g.B.Book.holdings c.args.book.now in
     let places = g.B.Book.places c.args.book.now in
     let admission = g.B.Book.admission c.args.book.now in
@@ -45,19 +45,19 @@ returns-in-Err-check-fits g c =
     let first = c.args.first in
     let last = c.args.last in
     let q = c.args.quantity in
-    let why = no_remainder m held places admission giver taker first last q (sym c.in-default.ensures.value) c.in-Err-check-fits.misfit (sym c.in-Err-check-fits.ensures) in
+    let why = no_remainder m held places admission giver taker first last q (sym c.in_default.ensures.value) c.in-Err-check_fits.misfit (sym c.in-Err-check_fits.ensures) in
     record {
       answer = ap span_number (sym why);
-      after = kept m held places admission giver taker first last q c.in-Err-check-fits.misfit why;
+      after = kept m held places admission giver taker first last q c.in-Err-check_fits.misfit why;
       passed = tt;
       places = refl;
       admission = refl;
       layer = refl;
     }
 
-pub returns-in-Err-check-fits-2 : goal.returns-in-Err-check-fits-2
-returns-in-Err-check-fits-2 g c =
-    let m = g.Q.Quantity.measure in
+pub returns-in-Err-check_fits-2 : goal.returns-in-Err-check_fits-2
+returns-in-Err-check_fits-2 g c =
+    let m = g.B.Q.Quantity.measure in
     let held = g.B.Book.holdings c.args.book.now in
     let places = g.B.Book.places c.args.book.now in
     let admission = g.B.Book.admission c.args.book.now in
@@ -66,19 +66,19 @@ returns-in-Err-check-fits-2 g c =
     let first = c.args.first in
     let last = c.args.last in
     let q = c.args.quantity in
-    let why = no_sum m held places admission giver taker first last q (sym c.in-default.ensures.value) (sym c.in-default-check-fits.ensures) c.in-Err-check-fits-2.misfit (sym c.in-Err-check-fits-2.ensures) in
+    let why = no_sum m held places admission giver taker first last q (sym c.in_default.ensures.value) (sym c.in_default-check_fits.ensures) c.in-Err-check_fits-2.misfit (sym c.in-Err-check_fits-2.ensures) in
     record {
       answer = ap span_number (sym why);
-      after = kept m held places admission giver taker first last q c.in-Err-check-fits-2.misfit why;
+      after = kept m held places admission giver taker first last q c.in-Err-check_fits-2.misfit why;
       passed = tt;
       places = refl;
       admission = refl;
       layer = refl;
     }
 
-pub returns-in-Err-check-admitted : goal.returns-in-Err-check-admitted
-returns-in-Err-check-admitted g c =
-    let m = g.Q.Quantity.measure in
+pub returns-in-Err-check_admitted : goal.returns-in-Err-check_admitted
+returns-in-Err-check_admitted g c =
+    let m = g.B.Q.Quantity.measure in
     let held = g.B.Book.holdings c.args.book.now in
     let places = g.B.Book.places c.args.book.now in
     let admission = g.B.Book.admission c.args.book.now in
@@ -87,10 +87,10 @@ returns-in-Err-check-admitted g c =
     let first = c.args.first in
     let last = c.args.last in
     let q = c.args.quantity in
-    let w = some_number c.in-Err-check-admitted.barred (first_of (unadmitted m held admission taker q) first (count first last)) c.in-Err-check-admitted.ensures.value in
-    let why = barred m held places admission giver taker first last q (sym c.in-default.ensures.value) (sym c.in-default-check-fits.ensures) (sym c.in-default-check-fits-2.ensures) w.0 w.1 in
+    let w = some_number c.in-Err-check_admitted.barred (first_of (unadmitted m held admission taker q) first (count first last)) c.in-Err-check_admitted.ensures.value in
+    let why = barred m held places admission giver taker first last q (sym c.in_default.ensures.value) (sym c.in_default-check_fits.ensures) (sym c.in_default-check_fits-2.ensures) w.0 w.1 in
     record {
-      answer = c.in-Err-check-admitted.ensures.value ∙ ap span_number (w.1 ∙ sym why);
+      answer = c.in-Err-check_admitted.ensures.value ∙ ap span_number (w.1 ∙ sym why);
       after = kept m held places admission giver taker first last q w.0 why;
       passed = tt;
       places = refl;
@@ -98,9 +98,9 @@ returns-in-Err-check-admitted g c =
       layer = refl;
     }
 
-pub returns-in-default-count-places : goal.returns-in-default-count-places
-returns-in-default-count-places g c =
-    let m = g.Q.Quantity.measure in
+pub returns-in_default-count_places : goal.returns-in_default-count_places
+returns-in_default-count_places g c =
+    let m = g.B.Q.Quantity.measure in
     let held = g.B.Book.holdings c.args.book.now in
     let places = g.B.Book.places c.args.book.now in
     let admission = g.B.Book.admission c.args.book.now in
@@ -109,10 +109,10 @@ returns-in-default-count-places g c =
     let first = c.args.first in
     let last = c.args.last in
     let q = c.args.quantity in
-    let bars = none_number (first_of (unadmitted m held admission taker q) first (count first last)) c.in-default-check-admitted.ensures.value in
+    let bars = none_number (first_of (unadmitted m held admission taker q) first (count first last)) c.in_default-check_admitted.ensures.value in
     let free : c.free-free.result ≡ places - taken m held = omega (arith, c.free-free.ensures) in
-    let first-left : left_after m held Lowering giver q (Some (places - taken m held)) first (count first last) ≡ c.count-places.result = ap (λ k. left_after m held Lowering giver q (Some k) first (count first last)) (sym free) ∙ sym c.count-places.ensures in
-    let why = no_room m held places admission giver taker first last q (sym c.in-default.ensures.value) (sym c.in-default-check-fits.ensures) (sym c.in-default-check-fits-2.ensures) bars (ap (λ o. left_after m held Raising taker q o first (count first last)) (first-left ∙ c.in-default-count-places.is) ∙ left_nothing (λ t. is_zero m (held taker t)) (λ t. is_zero m (becomes m held Raising taker q t)) first (count first last)) in
+    let first-left : left_after m held Lowering giver q (Some (places - taken m held)) first (count first last) ≡ c.count_places.result = ap (λ k. left_after m held Lowering giver q (Some k) first (count first last)) (sym free) ∙ sym c.count_places.ensures in
+    let why = no_room m held places admission giver taker first last q (sym c.in_default.ensures.value) (sym c.in_default-check_fits.ensures) (sym c.in_default-check_fits-2.ensures) bars (ap (λ o. left_after m held Raising taker q o first (count first last)) (first-left ∙ c.in_default-count_places.is) ∙ left_nothing (λ t. is_zero m (held taker t)) (λ t. is_zero m (becomes m held Raising taker q t)) first (count first last)) in
     record {
       answer = ap span_number (sym why);
       after = kept m held places admission giver taker first last q NoFreePlace why;
@@ -122,9 +122,9 @@ returns-in-default-count-places g c =
       layer = refl;
     }
 
-pub count-places-requires-2 : goal.count-places-requires-2
-count-places-requires-2 g c =
-    let m = g.Q.Quantity.measure in
+pub count_places-requires-2 : goal.count_places-requires-2
+count_places-requires-2 g c =
+    let m = g.B.Q.Quantity.measure in
     let held = g.B.Book.holdings c.args.book.now in
     let places = g.B.Book.places c.args.book.now in
     let admission = g.B.Book.admission c.args.book.now in
@@ -133,12 +133,12 @@ count-places-requires-2 g c =
     let first = c.args.first in
     let last = c.args.last in
     let q = c.args.quantity in
-    let sh = c.in-default.ensures.shape in
-    (sh.1, sh.2, sh.3, omega (arith, left_under_some (λ t. is_zero m (held giver t)) (λ t. is_zero m (becomes m held Lowering giver q t)) c.free-free.result first (count first last) c.in-Some.lowered (sym c.count-places.ensures ∙ c.in-Some.is)))
+    let sh = c.in_default.ensures.shape in
+    (sh.1, sh.2, sh.3, omega (arith, left_under_some (λ t. is_zero m (held giver t)) (λ t. is_zero m (becomes m held Lowering giver q t)) c.free-free.result first (count first last) c.in-Some.lowered (sym c.count_places.ensures ∙ c.in-Some.is)))
 
-pub returns-then-is-none : goal.returns-then-is-none
-returns-then-is-none g c =
-    let m = g.Q.Quantity.measure in
+pub returns-then-is_none : goal.returns-then-is_none
+returns-then-is_none g c =
+    let m = g.B.Q.Quantity.measure in
     let held = g.B.Book.holdings c.args.book.now in
     let places = g.B.Book.places c.args.book.now in
     let admission = g.B.Book.admission c.args.book.now in
@@ -147,11 +147,11 @@ returns-then-is-none g c =
     let first = c.args.first in
     let last = c.args.last in
     let q = c.args.quantity in
-    let bars = none_number (first_of (unadmitted m held admission taker q) first (count first last)) c.in-default-check-admitted.ensures.value in
+    let bars = none_number (first_of (unadmitted m held admission taker q) first (count first last)) c.in_default-check_admitted.ensures.value in
     let free : c.free-free.result ≡ places - taken m held = omega (arith, c.free-free.ensures) in
-    let first-left : left_after m held Lowering giver q (Some (places - taken m held)) first (count first last) ≡ c.count-places.result = ap (λ k. left_after m held Lowering giver q (Some k) first (count first last)) (sym free) ∙ sym c.count-places.ensures in
-    let both_left : left_after m held Raising taker q (left_after m held Lowering giver q (Some (places - taken m held)) first (count first last)) first (count first last) ≡ c.count-places-2.result = ap (λ o. left_after m held Raising taker q o first (count first last)) (first-left ∙ c.in-Some.is) ∙ sym c.count-places-2.ensures in
-    let why = no_room m held places admission giver taker first last q (sym c.in-default.ensures.value) (sym c.in-default-check-fits.ensures) (sym c.in-default-check-fits-2.ensures) bars (both_left ∙ none_from c.count-places-2.result c.if-is-none.ensures) in
+    let first-left : left_after m held Lowering giver q (Some (places - taken m held)) first (count first last) ≡ c.count_places.result = ap (λ k. left_after m held Lowering giver q (Some k) first (count first last)) (sym free) ∙ sym c.count_places.ensures in
+    let both_left : left_after m held Raising taker q (left_after m held Lowering giver q (Some (places - taken m held)) first (count first last)) first (count first last) ≡ c.count_places-2.result = ap (λ o. left_after m held Raising taker q o first (count first last)) (first-left ∙ c.in-Some.is) ∙ sym c.count_places-2.ensures in
+    let why = no_room m held places admission giver taker first last q (sym c.in_default.ensures.value) (sym c.in_default-check_fits.ensures) (sym c.in_default-check_fits-2.ensures) bars (both_left ∙ none_from c.count_places-2.result c.if-is_none.ensures) in
     record {
       answer = ap span_number (sym why);
       after = kept m held places admission giver taker first last q NoFreePlace why;
@@ -161,9 +161,9 @@ returns-then-is-none g c =
       layer = refl;
     }
 
-pub apply-span-requires : goal.apply-span-requires
-apply-span-requires g c =
-    let m = g.Q.Quantity.measure in
+pub apply_span-requires : goal.apply_span-requires
+apply_span-requires g c =
+    let m = g.B.Q.Quantity.measure in
     let held = g.B.Book.holdings c.args.book.now in
     let places = g.B.Book.places c.args.book.now in
     let admission = g.B.Book.admission c.args.book.now in
@@ -172,11 +172,11 @@ apply-span-requires g c =
     let first = c.args.first in
     let last = c.args.last in
     let q = c.args.quantity in
-    let gives : (t : ℕ) → first ≤ t → t ≤ last → is_some (next m Lowering (held giver t) q) ≡ true = λ t l h. fit_next m held Lowering giver q t (first_clear (unfit m held Lowering giver q) first (count first last) (sym c.in-default-check-fits.ensures) t l (omega arith)) in
-    let takes : (t : ℕ) → first ≤ t → t ≤ last → is_some (next m Raising (held taker t) q) ≡ true = λ t l h. fit_next m held Raising taker q t (first_clear (unfit m held Raising taker q) first (count first last) (sym c.in-default-check-fits-2.ensures) t l (omega arith)) in
-    let sh = c.in-default.ensures.shape in
+    let gives : (t : ℕ) → first ≤ t → t ≤ last → is_some (next m Lowering (held giver t) q) ≡ true = λ t l h. fit_next m held Lowering giver q t (first_clear (unfit m held Lowering giver q) first (count first last) (sym c.in_default-check_fits.ensures) t l (omega arith)) in
+    let takes : (t : ℕ) → first ≤ t → t ≤ last → is_some (next m Raising (held taker t) q) ≡ true = λ t l h. fit_next m held Raising taker q t (first_clear (unfit m held Raising taker q) first (count first last) (sym c.in_default-check_fits-2.ensures) t l (omega arith)) in
+    let sh = c.in_default.ensures.shape in
     let free : c.free-free.result ≡ places - taken m held = omega (arith, c.free-free.ensures) in
-    let first-left : left_after m held Lowering giver q (Some (places - taken m held)) first (count first last) ≡ c.count-places.result = ap (λ k. left_after m held Lowering giver q (Some k) first (count first last)) (sym free) ∙ sym c.count-places.ensures in
+    let first-left : left_after m held Lowering giver q (Some (places - taken m held)) first (count first last) ≡ c.count_places.result = ap (λ k. left_after m held Lowering giver q (Some k) first (count first last)) (sym free) ∙ sym c.count_places.ensures in
     record {
       provider = sh.0;
       order = sh.2;
@@ -187,9 +187,9 @@ apply-span-requires g c =
       room = ap is_some (first-left ∙ c.in-Some.is);
     }
 
-pub apply-span-requires-2 : goal.apply-span-requires-2
-apply-span-requires-2 g c =
-    let m = g.Q.Quantity.measure in
+pub apply_span-requires-2 : goal.apply_span-requires-2
+apply_span-requires-2 g c =
+    let m = g.B.Q.Quantity.measure in
     let held = g.B.Book.holdings c.args.book.now in
     let places = g.B.Book.places c.args.book.now in
     let admission = g.B.Book.admission c.args.book.now in
@@ -198,32 +198,32 @@ apply-span-requires-2 g c =
     let first = c.args.first in
     let last = c.args.last in
     let q = c.args.quantity in
-    let gives : (t : ℕ) → first ≤ t → t ≤ last → is_some (next m Lowering (held giver t) q) ≡ true = λ t l h. fit_next m held Lowering giver q t (first_clear (unfit m held Lowering giver q) first (count first last) (sym c.in-default-check-fits.ensures) t l (omega arith)) in
-    let takes : (t : ℕ) → first ≤ t → t ≤ last → is_some (next m Raising (held taker t) q) ≡ true = λ t l h. fit_next m held Raising taker q t (first_clear (unfit m held Raising taker q) first (count first last) (sym c.in-default-check-fits-2.ensures) t l (omega arith)) in
-    let sh = c.in-default.ensures.shape in
+    let gives : (t : ℕ) → first ≤ t → t ≤ last → is_some (next m Lowering (held giver t) q) ≡ true = λ t l h. fit_next m held Lowering giver q t (first_clear (unfit m held Lowering giver q) first (count first last) (sym c.in_default-check_fits.ensures) t l (omega arith)) in
+    let takes : (t : ℕ) → first ≤ t → t ≤ last → is_some (next m Raising (held taker t) q) ≡ true = λ t l h. fit_next m held Raising taker q t (first_clear (unfit m held Raising taker q) first (count first last) (sym c.in_default-check_fits-2.ensures) t l (omega arith)) in
+    let sh = c.in_default.ensures.shape in
     let free : c.free-free.result ≡ places - taken m held = omega (arith, c.free-free.ensures) in
-    let first-left : left_after m held Lowering giver q (Some (places - taken m held)) first (count first last) ≡ c.count-places.result = ap (λ k. left_after m held Lowering giver q (Some k) first (count first last)) (sym free) ∙ sym c.count-places.ensures in
-    let both_left : left_after m held Raising taker q (left_after m held Lowering giver q (Some (places - taken m held)) first (count first last)) first (count first last) ≡ c.count-places-2.result = ap (λ o. left_after m held Raising taker q o first (count first last)) (first-left ∙ c.in-Some.is) ∙ sym c.count-places-2.ensures in
-    let held1 = g.B.Book.holdings c.apply-span.new.book in
-    let low = c.apply-span.ensures.after in
+    let first-left : left_after m held Lowering giver q (Some (places - taken m held)) first (count first last) ≡ c.count_places.result = ap (λ k. left_after m held Lowering giver q (Some k) first (count first last)) (sym free) ∙ sym c.count_places.ensures in
+    let both_left : left_after m held Raising taker q (left_after m held Lowering giver q (Some (places - taken m held)) first (count first last)) first (count first last) ≡ c.count_places-2.result = ap (λ o. left_after m held Raising taker q o first (count first last)) (first-left ∙ c.in-Some.is) ∙ sym c.count_places-2.ensures in
+    let held1 = g.B.Book.holdings c.apply_span.new.book in
+    let low = c.apply_span.ensures.after in
     record {
       provider = sh.1;
       order = sh.2;
       end = sh.3;
       fits = λ t l h. still_takes m held held1 giver taker q first last sh.4 low gives takes t l h;
-      welcome = λ t l h s other e k. ap (λ a. a taker t other) c.apply-span.ensures.admission ∙ still_welcome m held held1 giver taker q first last sh.4 low gives takes t l h admission (c.in-default-check-admitted.ensures.alike t l h) s other e k;
-      bound = omega (arith, c.apply-span.ensures.bound, c.apply-span.ensures.places);
+      welcome = λ t l h s other e k. ap (λ a. a taker t other) c.apply_span.ensures.admission ∙ still_welcome m held held1 giver taker q first last sh.4 low gives takes t l h admission (c.in_default-check_admitted.ensures.alike t l h) s other e k;
+      bound = omega (arith, c.apply_span.ensures.bound, c.apply_span.ensures.places);
       room =
           ap is_some
-          (ap (λ n. left_after m held1 Raising taker q (Some (n - taken m held1)) first (count first last)) c.apply-span.ensures.places
+          (ap (λ n. left_after m held1 Raising taker q (Some (n - taken m held1)) first (count first last)) c.apply_span.ensures.places
           ∙ (same_left m held held1 giver taker q first last sh.4 low gives takes (Some (places - taken m held1))
-          ∙ (ap (λ o. left_after m held Raising taker q o first (count first last)) (sym c.apply-span.ensures.left) ∙ both_left)))
-          ∙ c.if-is-none.ensures;
+          ∙ (ap (λ o. left_after m held Raising taker q o first (count first last)) (sym c.apply_span.ensures.left) ∙ both_left)))
+          ∙ c.if-is_none.ensures;
     }
 
 pub returns : goal.returns
 returns g c =
-    let m = g.Q.Quantity.measure in
+    let m = g.B.Q.Quantity.measure in
     let held = g.B.Book.holdings c.args.book.now in
     let places = g.B.Book.places c.args.book.now in
     let admission = g.B.Book.admission c.args.book.now in
@@ -232,23 +232,23 @@ returns g c =
     let first = c.args.first in
     let last = c.args.last in
     let q = c.args.quantity in
-    let gives : (t : ℕ) → first ≤ t → t ≤ last → is_some (next m Lowering (held giver t) q) ≡ true = λ t l h. fit_next m held Lowering giver q t (first_clear (unfit m held Lowering giver q) first (count first last) (sym c.in-default-check-fits.ensures) t l (omega arith)) in
-    let takes : (t : ℕ) → first ≤ t → t ≤ last → is_some (next m Raising (held taker t) q) ≡ true = λ t l h. fit_next m held Raising taker q t (first_clear (unfit m held Raising taker q) first (count first last) (sym c.in-default-check-fits-2.ensures) t l (omega arith)) in
-    let sh = c.in-default.ensures.shape in
-    let bars = none_number (first_of (unadmitted m held admission taker q) first (count first last)) c.in-default-check-admitted.ensures.value in
+    let gives : (t : ℕ) → first ≤ t → t ≤ last → is_some (next m Lowering (held giver t) q) ≡ true = λ t l h. fit_next m held Lowering giver q t (first_clear (unfit m held Lowering giver q) first (count first last) (sym c.in_default-check_fits.ensures) t l (omega arith)) in
+    let takes : (t : ℕ) → first ≤ t → t ≤ last → is_some (next m Raising (held taker t) q) ≡ true = λ t l h. fit_next m held Raising taker q t (first_clear (unfit m held Raising taker q) first (count first last) (sym c.in_default-check_fits-2.ensures) t l (omega arith)) in
+    let sh = c.in_default.ensures.shape in
+    let bars = none_number (first_of (unadmitted m held admission taker q) first (count first last)) c.in_default-check_admitted.ensures.value in
     let free : c.free-free.result ≡ places - taken m held = omega (arith, c.free-free.ensures) in
-    let first-left : left_after m held Lowering giver q (Some (places - taken m held)) first (count first last) ≡ c.count-places.result = ap (λ k. left_after m held Lowering giver q (Some k) first (count first last)) (sym free) ∙ sym c.count-places.ensures in
-    let both_left : left_after m held Raising taker q (left_after m held Lowering giver q (Some (places - taken m held)) first (count first last)) first (count first last) ≡ c.count-places-2.result = ap (λ o. left_after m held Raising taker q o first (count first last)) (first-left ∙ c.in-Some.is) ∙ sym c.count-places-2.ensures in
-    let held1 = g.B.Book.holdings c.apply-span.new.book in
-    let low = c.apply-span.ensures.after in
-    let some = some_from c.count-places-2.result c.if-is-none.ensures in
-    let why = taken_whole m held places admission giver taker first last q (sym c.in-default.ensures.value) (sym c.in-default-check-fits.ensures) (sym c.in-default-check-fits-2.ensures) bars some.0 (both_left ∙ some.1) in
-    let now = c.apply-span-2.ensures.after ∙ moved_is m held held1 giver taker q first last sh.4 low gives takes places admission in
+    let first-left : left_after m held Lowering giver q (Some (places - taken m held)) first (count first last) ≡ c.count_places.result = ap (λ k. left_after m held Lowering giver q (Some k) first (count first last)) (sym free) ∙ sym c.count_places.ensures in
+    let both_left : left_after m held Raising taker q (left_after m held Lowering giver q (Some (places - taken m held)) first (count first last)) first (count first last) ≡ c.count_places-2.result = ap (λ o. left_after m held Raising taker q o first (count first last)) (first-left ∙ c.in-Some.is) ∙ sym c.count_places-2.ensures in
+    let held1 = g.B.Book.holdings c.apply_span.new.book in
+    let low = c.apply_span.ensures.after in
+    let some = some_from c.count_places-2.result c.if-is_none.ensures in
+    let why = taken_whole m held places admission giver taker first last q (sym c.in_default.ensures.value) (sym c.in_default-check_fits.ensures) (sym c.in_default-check_fits-2.ensures) bars some.0 (both_left ∙ some.1) in
+    let now = c.apply_span-2.ensures.after ∙ moved_is m held held1 giver taker q first last sh.4 low gives takes places admission in
     record {
       answer = ap span_number (sym why);
       after = now ∙ done m held places admission giver taker first last q why;
       passed = passed m held held1 giver taker q first last sh.4 low gives takes places admission _ now;
-      places = c.apply-span-2.ensures.places ∙ c.apply-span.ensures.places;
-      admission = c.apply-span-2.ensures.admission ∙ c.apply-span.ensures.admission;
-      layer = c.apply-span-2.ensures.layer ∙ c.apply-span.ensures.layer;
+      places = c.apply_span-2.ensures.places ∙ c.apply_span.ensures.places;
+      admission = c.apply_span-2.ensures.admission ∙ c.apply_span.ensures.admission;
+      layer = c.apply_span-2.ensures.layer ∙ c.apply_span.ensures.layer;
     }
