@@ -8,11 +8,11 @@ use Rattle.refusals.specs.First.{first_some, when, unless_refused}
 use Rattle.refusals.specs.declared.refusal.Refusal.{Refusal}
 use Rattle.refusals.specs.declared.refusal.Refusal.TheVariants.{NoSuchProvider, NoSuchSpan, ZeroQuantity, WrongPriceCount, PriceTooLarge, TooManyAwards}
 use Rattle.refusals.proofs.Firsts.{alone, none_both, front_stops, front_passes, front_clear, when_none}
-use Rattle.span_moves.specs.declared.change.Change.TheVariants.{Raising}
-use Rattle.span_moves.specs.Spans.{no_provider, no_span, spanned}
-use Rattle.span_moves.specs.Moves.{span_refusal, span_after, share}
-use Rattle.span_moves.proofs.Alike.{zero_alike}
-use Rattle.span_moves.proofs.Shares.{raise-adds}
+use Rattle.span_changes.specs.declared.change.Change.TheVariants.{Raising}
+use Rattle.span_changes.specs.Spans.{no_provider, no_span, spanned}
+use Rattle.span_changes.specs.Moves.{span_refusal, span_after, share}
+use Rattle.span_changes.proofs.Alike.{zero_alike}
+use Rattle.span_changes.proofs.Shares.{raise_adds}
 use Rattle.awards.specs.Blocks.{first_of_block, last_of_block, count_of_block}
 use Rattle.awards.specs.Sheets.{SheetView, entered, enterable}
 use Rattle.awards.specs.Awards.{overpriced, award_earns, award_conditions, award_refusal, award_after, award_sheet}
@@ -83,7 +83,7 @@ module _ {Q R : Type 0} (m : Measure Q R) (held : Grid Q) (places : ℕ) (admiss
     pub award_adds : refusal ≡ None → (x u : ℕ) → award_after m held places admission directions quarters awards provider block quantity prices x u ≡ m.plus (share m provider (first_of_block quarters block) (last_of_block quarters block) (m.amount quantity) x u) (amounts m held x u)
     award_adds e x u =
         ap (λ g. g x u) (sym (taken_after e))
-        ∙ raise-adds m held places admission provider (first_of_block quarters block) (last_of_block quarters block) quantity (sym (refused_span (taken_clear e) (first_of_block quarters block) (last_of_block quarters block) refl refl) ∙ e) x u
+        ∙ raise_adds m held places admission provider (first_of_block quarters block) (last_of_block quarters block) quantity (sym (refused_span (taken_clear e) (first_of_block quarters block) (last_of_block quarters block) refl refl) ∙ e) x u
 
     abbrev Clear : Type 0
     Clear = first_some conditions ≡ None

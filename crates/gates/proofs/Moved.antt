@@ -3,13 +3,13 @@ use Rattle.std.proofs.Common.{◌≡◌, ℕ, Bool, true, false, cond, ◌&&◌,
 use mathlib.Core.Path.{fun_ext}
 use Rattle.quantity.specs.Measure.{Measure}
 use Rattle.book.specs.Grid.{Grid, amounts}
-use Rattle.span_moves.specs.declared.change.Change.TheVariants.{Lowering, Raising}
+use Rattle.span_changes.specs.declared.change.Change.TheVariants.{Lowering, Raising}
 use Rattle.refusals.specs.declared.refusal.Refusal.{Refusal}
 use Rattle.refusals.specs.First.{unless_refused}
-use Rattle.span_moves.specs.Moves.{movedHoldings, moved}
-use Rattle.span_moves.proofs.Shares.{moved-amounts}
-use Rattle.span_moves.specs.Spans.{becomes}
-use Rattle.span_moves.proofs.Alike.{became-row}
+use Rattle.span_changes.specs.Moves.{moved_holdings, moved}
+use Rattle.span_changes.proofs.Shares.{moved_amounts}
+use Rattle.span_changes.specs.Spans.{becomes}
+use Rattle.span_changes.proofs.Alike.{became_row}
 
 module _ {Q R : Type 0} (m : Measure Q R) (held other : Grid Q) (q : Q) (e : amounts m other ≡ amounts m held) where
   rows : (p t : ℕ) → m.amount (other p t) ≡ m.amount (held p t)
@@ -21,12 +21,12 @@ module _ {Q R : Type 0} (m : Measure Q R) (held other : Grid Q) (q : Q) (e : amo
   one false true x y x' y' z z' f g h = g
   one false false x y x' y' z z' f g h = h
 
-  pub moved_alike : (giver taker lo hi : ℕ) → amounts m (movedHoldings m other giver taker q lo hi) ≡ amounts m (movedHoldings m held giver taker q lo hi)
-  unfolding amounts movedHoldings
+  pub moved_alike : (giver taker lo hi : ℕ) → amounts m (moved_holdings m other giver taker q lo hi) ≡ amounts m (moved_holdings m held giver taker q lo hi)
+  unfolding amounts moved_holdings
   moved_alike giver taker lo hi =
-      fun_ext (λ x. fun_ext (λ u. one (eqb x giver && (leb lo u && ltb u hi)) (eqb x taker && (leb lo u && ltb u hi)) (becomes m other Lowering giver q u) (becomes m other Raising taker q u) (becomes m held Lowering giver q u) (becomes m held Raising taker q u) (other x u) (held x u) (became-row m held other giver q q (rows giver) refl Lowering u) (became-row m held other taker q q (rows taker) refl Raising u) (rows x u)))
+      fun_ext (λ x. fun_ext (λ u. one (eqb x giver && (leb lo u && ltb u hi)) (eqb x taker && (leb lo u && ltb u hi)) (becomes m other Lowering giver q u) (becomes m other Raising taker q u) (becomes m held Lowering giver q u) (becomes m held Raising taker q u) (other x u) (held x u) (became_row m held other giver q q (rows giver) refl Lowering u) (became_row m held other taker q q (rows taker) refl Raising u) (rows x u)))
 
   -- what a move leaves of holdings of the same amounts, made or refused
-  pub left_alike : (o : Option Refusal) (giver taker lo hi : ℕ) → unless_refused o (moved m held giver taker q lo hi) (amounts m held) ≡ amounts m (unless_refused o (movedHoldings m other giver taker q lo hi) other)
-  left_alike None giver taker lo hi = sym (moved-amounts m held giver taker q lo hi) ∙ sym (moved_alike giver taker lo hi)
+  pub left_alike : (o : Option Refusal) (giver taker lo hi : ℕ) → unless_refused o (moved m held giver taker q lo hi) (amounts m held) ≡ amounts m (unless_refused o (moved_holdings m other giver taker q lo hi) other)
+  left_alike None giver taker lo hi = sym (moved_amounts m held giver taker q lo hi) ∙ sym (moved_alike giver taker lo hi)
   left_alike (Some x) giver taker lo hi = sym e

@@ -6,7 +6,7 @@ use Rattle.book.specs.Grid.{Grid}
 use Rattle.book.specs.declared.answers.Admission.{Admission}
 use Rattle.refusals.specs.declared.refusal.Refusal.{Refusal}
 use Rattle.refusals.specs.First.{unless_refused}
-use Rattle.span_moves.specs.Moves.{move_refusal, movedHoldings}
+use Rattle.span_changes.specs.Moves.{move_refusal, moved_holdings}
 use Rattle.requests.specs.declared.request.Status.{Status}
 use Rattle.requests.specs.declared.request.Status.TheVariants.{WaitingForCounterpart, BalanceOk, BalanceError, Confirmed, Rejected, Waiting, Accepted, Declined, Lapsed}
 use Rattle.requests.specs.declared.request.Request.{Request}
@@ -71,7 +71,7 @@ module _ {Q R : Type 0} (m : Measure Q R) (places : ℕ) (admission : ℕ → �
 
   -- the holdings after the move of a request, if it can be made
   abbrev pub moved_on : Grid Q → Request R → Grid Q
-  moved_on held r = unless_refused (cause held r) (movedHoldings m held r.giver r.taker (passing m r.giving) r.first (r.last + 1)) held
+  moved_on held r = unless_refused (cause held r) (moved_holdings m held r.giver r.taker (passing m r.giving) r.first (r.last + 1)) held
 
   -- the holdings after a request: only a balanced one moves
   abbrev pub passed_on : Grid Q → Request R → Grid Q

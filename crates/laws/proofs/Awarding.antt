@@ -8,10 +8,10 @@ use Rattle.refusals.specs.declared.refusal.Refusal.{Refusal}
 use Rattle.refusals.specs.First.{unless_refused}
 use Rattle.refusals.proofs.Firsts.{alone}
 use Rattle.requests.specs.declared.request.Request.{Request}
-use Rattle.span_moves.specs.declared.change.Change.TheVariants.{Raising}
-use Rattle.span_moves.specs.Spans.{spanned}
-use Rattle.span_moves.specs.Moves.{span_refusal}
-use Rattle.span_moves.proofs.Shares.{raise-adds}
+use Rattle.span_changes.specs.declared.change.Change.TheVariants.{Raising}
+use Rattle.span_changes.specs.Spans.{spanned}
+use Rattle.span_changes.specs.Moves.{span_refusal}
+use Rattle.span_changes.proofs.Shares.{raise_adds}
 use Rattle.awards.specs.Blocks.{first_of_block, last_of_block, count_of_block, in_block}
 use Rattle.awards.specs.Sheets.{SheetView, entered}
 use Rattle.awards.specs.Awards.{award_earns, award_conditions, award_refusal, award_after, award_sheet}
@@ -58,7 +58,7 @@ module _ {Q R : Type 0} (m : Measure Q R) (held : Grid Q) (places : ℕ) (admiss
       let raising = span_refusal m held places admission Raising provider first last q in
       let ready : raising ≡ None = sym (alone raising) ∙ (fronts_none (award_conditions m directions sheet.awards provider block q prices) (raising ∷ []) e).1 in
       ap (λ o. unless_refused o (spanned m held Raising provider q first (last + 1)) (amounts m held) p t) e
-      ∙ (raise-adds m held places admission provider first last q ready p t
+      ∙ (raise_adds m held places admission provider first last q ready p t
       ∙ ap (λ end. m.plus (cond (eqb p provider && (leb first t && ltb t end)) (m.amount q) m.none) (amounts m held p t)) (last_end quarters block (long_day quarters l)))
 
   pub award_volume :

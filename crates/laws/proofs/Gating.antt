@@ -6,8 +6,8 @@ use Rattle.book.specs.Grid.{Grid, amounts}
 use Rattle.book.specs.declared.answers.Admission.{Admission}
 use Rattle.refusals.specs.declared.refusal.Refusal.{Refusal}
 use Rattle.refusals.specs.First.{unless_refused}
-use Rattle.span_moves.specs.Moves.{movedHoldings, share}
-use Rattle.span_moves.proofs.Shares.{moved-amounts, move-passes}
+use Rattle.span_changes.specs.Moves.{moved_holdings, share}
+use Rattle.span_changes.proofs.Shares.{moved_amounts, move_passes}
 use Rattle.requests.specs.declared.request.Status.{Status}
 use Rattle.requests.specs.declared.request.Status.TheVariants.{WaitingForCounterpart, BalanceOk, BalanceError, Confirmed, Rejected, Waiting, Accepted, Declined, Lapsed}
 use Rattle.requests.specs.declared.request.Request.{Request}
@@ -68,15 +68,15 @@ module _ {Q R : Type 0} (m : Measure Q R) where
         (gate : Gate) (held : Grid Q) (r : Request R) (out into : m.Amount) (status : Status) (why : Option Refusal) → cause m places admission held r ≡ why →
         (agreed status ≡ true → out ≡ share m r.giver r.first r.last (m.amount (passing m r.giving)) p t) →
         (agreed status ≡ true → into ≡ share m r.taker r.first r.last (m.amount (passing m r.giving)) p t) →
-        m.plus (m.plus (amounts m (cond (has_balance status) (unless_refused why (movedHoldings m held r.giver r.taker (passing m r.giving) r.first (r.last + 1)) held) held) p t) (cond (is_confirmed (judged gate why status)) out m.none)) (cond (is_confirmed status) into m.none)
+        m.plus (m.plus (amounts m (cond (has_balance status) (unless_refused why (moved_holdings m held r.giver r.taker (passing m r.giving) r.first (r.last + 1)) held) held) p t) (cond (is_confirmed (judged gate why status)) out m.none)) (cond (is_confirmed status) into m.none)
         ≡ m.plus (m.plus (amounts m held p t) (cond (is_confirmed status) out m.none)) (cond (is_confirmed (judged gate why status)) into m.none)
     step gate held r out into BalanceOk None e f g =
-        let new = amounts m (movedHoldings m held r.giver r.taker (passing m r.giving) r.first (r.last + 1)) p t in
+        let new = amounts m (moved_holdings m held r.giver r.taker (passing m r.giving) r.first (r.last + 1)) p t in
         let gone = share m r.giver r.first r.last (m.amount (passing m r.giving)) p t in
         let come = share m r.taker r.first r.last (m.amount (passing m r.giving)) p t in
         let passes : m.plus gone new ≡ m.plus come (amounts m held p t) =
-        ap (λ (x : Grid m.Amount). m.plus gone (x p t)) (moved-amounts m held r.giver r.taker (passing m r.giving) r.first (r.last + 1))
-        ∙ move-passes m held places admission r.giver r.taker r.first r.last (passing m r.giving) e p t in
+        ap (λ (x : Grid m.Amount). m.plus gone (x p t)) (moved_amounts m held r.giver r.taker (passing m r.giving) r.first (r.last + 1))
+        ∙ move_passes m held places admission r.giver r.taker r.first r.last (passing m r.giving) e p t in
         neutral_right m (m.plus new out)
         ∙ (m.commutes new out
         ∙ (ap (λ x. m.plus x new) (f refl)

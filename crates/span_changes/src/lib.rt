@@ -1,3 +1,5 @@
+#![tactic(auto)]
+
 mod apply;
 mod change;
 mod checks;
