@@ -10,7 +10,7 @@ use Rattle.span_changes.proofs.apply.apply_span.Goals as goal
 
 pub loop-quarter-init : goal.loop-quarter-init
 loop-quarter-init g c =
-    let m = g.Q.Quantity.measure in
+    let m = g.B.Q.Quantity.measure in
     let held = g.B.Book.holdings c.args.book.now in
     let change = c.args.change in
     let p = c.args.provider in
@@ -26,7 +26,7 @@ loop-quarter-init g c =
 
 pub loop-quarter-preserved : goal.loop-quarter-preserved
 loop-quarter-preserved g c =
-    let m = g.Q.Quantity.measure in
+    let m = g.B.Q.Quantity.measure in
     let held0 = g.B.Book.holdings c.args.book.now in
     let places = g.B.Book.places c.args.book.now in
     let admission = g.B.Book.admission c.args.book.now in
@@ -35,15 +35,15 @@ loop-quarter-preserved g c =
     let q = c.args.quantity in
     let t = c.loop-quarter.quarter in
     let held = g.B.Book.holdings c.loop-quarter.book in
-    let after = g.B.Book.holdings c.apply-one.new.book in
+    let after = g.B.Book.holdings c.apply_one.new.book in
     let inv = c.loop-quarter.invariant in
     let l : c.args.first ≤ t = omega arith in
     let h : t ≤ c.args.last = omega arith in
-    let is : amounts m after ≡ changed_one m held places admission change p t q = c.apply-one.ensures.after ∙ (ap (λ n. changed_one m held n (g.B.Book.admission c.loop-quarter.book) change p t q) inv.3 ∙ ap (λ a. changed_one m held places a change p t q) inv.4) in (
+    let is : amounts m after ≡ changed_one m held places admission change p t q = c.apply_one.ensures.after ∙ (ap (λ n. changed_one m held n (g.B.Book.admission c.loop-quarter.book) change p t q) inv.3 ∙ ap (λ a. changed_one m held places a change p t q) inv.4) in (
       is ∙ next_amounts m held0 places admission change p c.args.first c.args.last q c.requires t l h held inv.0 inv.1 inv.2,
       next_count m held0 places admission change p c.args.first c.args.last q c.requires t l h held inv.0 inv.1 inv.2 after is,
       next_bound m held0 places admission change p c.args.first c.args.last q c.requires t l h held inv.0 inv.1 inv.2 after is,
-      c.apply-one.ensures.places ∙ inv.3,
-      c.apply-one.ensures.admission ∙ inv.4,
-      c.apply-one.ensures.layer ∙ inv.5,
+      c.apply_one.ensures.places ∙ inv.3,
+      c.apply_one.ensures.admission ∙ inv.4,
+      c.apply_one.ensures.layer ∙ inv.5,
     )

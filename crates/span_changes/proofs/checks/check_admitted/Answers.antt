@@ -11,11 +11,11 @@ use Rattle.span_changes.specs.Spans.{barred_at, unadmitted, count}
 use Rattle.span_changes.proofs.Alike.{rows, barred_row}
 use Rattle.span_changes.proofs.Firsts.{clear_more, first_hit, first_miss}
 use Rattle.span_changes.proofs.checks.check_admitted.Goals as goal
-use Rattle.span_changes.proofs.checks.check_admitted.Goals.{in-Some+in-default-admits, in-default}
+use Rattle.span_changes.proofs.checks.check_admitted.Goals.{in-Some+in_default-admits, in_default}
 
 pub returns-in-No : goal.returns-in-No
 returns-in-No g c other r e f =
-    let m = g.Q.Quantity.measure in
+    let m = g.B.Q.Quantity.measure in
     let held = g.B.Book.holdings c.args.book.now in
     let admission = g.B.Book.admission c.args.book.now in
     let p = c.args.provider in
@@ -31,7 +31,7 @@ returns-in-No g c other r e f =
 
 pub loop-quarter-preserved : goal.loop-quarter-preserved
 loop-quarter-preserved g c other r e f =
-    let m = g.Q.Quantity.measure in
+    let m = g.B.Q.Quantity.measure in
     let held = g.B.Book.holdings c.args.book.now in
     let admission = g.B.Book.admission c.args.book.now in
     let p = c.args.provider in
@@ -40,12 +40,12 @@ loop-quarter-preserved g c other r e f =
     let inside = range_from p t (omega arith) (omega arith) in
     let joined : m.joined (held p t) q ≡ c.join.result = sym (c.join.ensures ∙ ap (λ x. m.joined x q) (c.holding.ensures ∙ held_inside m held p t inside)) in
     let here : unadmitted m other admission p r t ≡ None = elim c.match-join.branch [
-      | in-Some+in-default-admits w ↦ barred_row m held other p q r (rows m held other e p) f admission t (Some w.in-Some.sum) (joined ∙ w.in-Some.is) w.admits.ensures.alike
-          ∙ ap (barred_at p t) (sym (admission_once Yes (admission p t w.in-Some.sum) (w.in-default-admits.ensures.value ∙ ap admission_number (cond-true (in_range p t) (admission p t w.in-Some.sum) Yes inside))))
-      | in-default w ↦ barred_row m held other p q r (rows m held other e p) f admission t None (joined ∙ w.in-default.is) tt
+      | in-Some+in_default-admits w ↦ barred_row m held other p q r (rows m held other e p) f admission t (Some w.in-Some.sum) (joined ∙ w.in-Some.is) w.admits.ensures.alike
+          ∙ ap (barred_at p t) (sym (admission_once Yes (admission p t w.in-Some.sum) (w.in_default-admits.ensures.value ∙ ap admission_number (cond-true (in_range p t) (admission p t w.in-Some.sum) Yes inside))))
+      | in_default w ↦ barred_row m held other p q r (rows m held other e p) f admission t None (joined ∙ w.in_default.is) tt
     ] in
     clear_more (unadmitted m other admission p r) c.args.first t (c.loop-quarter.invariant other r e f) here
 
 pub returns : goal.returns
 returns g c other r e f =
-    sym (first_miss (unadmitted g.Q.Quantity.measure other (g.B.Book.admission c.args.book.now) c.args.provider r) c.args.first (count c.args.first c.args.last) (λ k l h. c.loop-quarter.invariant other r e f k l (omega arith)))
+    sym (first_miss (unadmitted g.B.Q.Quantity.measure other (g.B.Book.admission c.args.book.now) c.args.provider r) c.args.first (count c.args.first c.args.last) (λ k l h. c.loop-quarter.invariant other r e f k l (omega arith)))

@@ -10,7 +10,7 @@ use Rattle.span_changes.proofs.spans.change_span.Goals as goal
 
 pub returns-then-provider-ge32 : goal.returns-then-provider-ge32
 returns-then-provider-ge32 g c =
-    let m = g.Q.Quantity.measure in
+    let m = g.B.Q.Quantity.measure in
     let held = g.B.Book.holdings c.args.book.now in
     let places = g.B.Book.places c.args.book.now in
     let admission = g.B.Book.admission c.args.book.now in
@@ -31,7 +31,7 @@ returns-then-provider-ge32 g c =
 
 pub returns-then-first-last : goal.returns-then-first-last
 returns-then-first-last g c =
-    let m = g.Q.Quantity.measure in
+    let m = g.B.Q.Quantity.measure in
     let held = g.B.Book.holdings c.args.book.now in
     let places = g.B.Book.places c.args.book.now in
     let admission = g.B.Book.admission c.args.book.now in
@@ -52,7 +52,7 @@ returns-then-first-last g c =
 
 pub returns-in-Err : goal.returns-in-Err
 returns-in-Err g c =
-    let m = g.Q.Quantity.measure in
+    let m = g.B.Q.Quantity.measure in
     let held = g.B.Book.holdings c.args.book.now in
     let places = g.B.Book.places c.args.book.now in
     let admission = g.B.Book.admission c.args.book.now in
@@ -74,9 +74,9 @@ returns-in-Err g c =
       layer = refl;
     }
 
-pub returns-in-Err-check-welcome : goal.returns-in-Err-check-welcome
-returns-in-Err-check-welcome g c =
-    let m = g.Q.Quantity.measure in
+pub returns-in-Err-check_welcome : goal.returns-in-Err-check_welcome
+returns-in-Err-check_welcome g c =
+    let m = g.B.Q.Quantity.measure in
     let held = g.B.Book.holdings c.args.book.now in
     let places = g.B.Book.places c.args.book.now in
     let admission = g.B.Book.admission c.args.book.now in
@@ -88,19 +88,19 @@ returns-in-Err-check-welcome g c =
     let hp : p < 32 = omega arith in
     let hs : first ≤ last = omega arith in
     let hl : last < 100 = omega arith in
-    let told = barred_first m held places admission change p first last q hp hs hl (sym c.in-default.ensures) c.in-Err-check-welcome.barred c.in-Err-check-welcome.ensures in
+    let told = barred_first m held places admission change p first last q hp hs hl (sym c.in_default.ensures) c.in-Err-check_welcome.barred c.in-Err-check_welcome.ensures in
     record {
       answer = ap answer_number (told held q refl refl);
       alike = told;
-      after = kept m held places admission change p first last q c.in-Err-check-welcome.barred told;
+      after = kept m held places admission change p first last q c.in-Err-check_welcome.barred told;
       places = refl;
       admission = refl;
       layer = refl;
     }
 
-pub returns-then-is-none : goal.returns-then-is-none
-returns-then-is-none g c =
-    let m = g.Q.Quantity.measure in
+pub returns-then-is_none : goal.returns-then-is_none
+returns-then-is_none g c =
+    let m = g.B.Q.Quantity.measure in
     let held = g.B.Book.holdings c.args.book.now in
     let places = g.B.Book.places c.args.book.now in
     let admission = g.B.Book.admission c.args.book.now in
@@ -113,8 +113,8 @@ returns-then-is-none g c =
     let hs : first ≤ last = omega arith in
     let hl : last < 100 = omega arith in
     let free : c.free-free.result ≡ places - taken m held = omega (arith, c.free-free.ensures) in
-    let gone : left_after m held change p q (Some (places - taken m held)) first (count first last) ≡ None = ap (λ k. left_after m held change p q (Some k) first (count first last)) (sym free) ∙ (sym c.count-places.ensures ∙ none_from c.count-places.result c.if-is-none.ensures) in
-    let told = by_room m held places admission change p first last q hp hs hl (sym c.in-default.ensures) c.in-default-check-welcome.ensures None gone in
+    let gone : left_after m held change p q (Some (places - taken m held)) first (count first last) ≡ None = ap (λ k. left_after m held change p q (Some k) first (count first last)) (sym free) ∙ (sym c.count_places.ensures ∙ none_from c.count_places.result c.if-is_none.ensures) in
+    let told = by_room m held places admission change p first last q hp hs hl (sym c.in_default.ensures) c.in_default-check_welcome.ensures None gone in
     record {
       answer = ap answer_number (told held q refl refl);
       alike = told;
@@ -124,9 +124,9 @@ returns-then-is-none g c =
       layer = refl;
     }
 
-pub apply-span-requires : goal.apply-span-requires
-apply-span-requires g c =
-    let m = g.Q.Quantity.measure in
+pub apply_span-requires : goal.apply_span-requires
+apply_span-requires g c =
+    let m = g.B.Q.Quantity.measure in
     let held = g.B.Book.holdings c.args.book.now in
     let places = g.B.Book.places c.args.book.now in
     let admission = g.B.Book.admission c.args.book.now in
@@ -143,15 +143,15 @@ apply-span-requires g c =
       provider = hp;
       order = hs;
       end = hl;
-      fits = all_fit m held p first last q change (sym c.in-default.ensures);
-      welcome = welcome_from m held places admission change p first last q c.in-default-check-welcome.ensures;
+      fits = all_fit m held p first last q change (sym c.in_default.ensures);
+      welcome = welcome_from m held places admission change p first last q c.in_default-check_welcome.ensures;
       bound = omega (arith, c.free-free.ensures);
-      room = ap is_some (ap (λ k. left_after m held change p q (Some k) first (count first last)) (sym free) ∙ sym c.count-places.ensures) ∙ c.if-is-none.ensures;
+      room = ap is_some (ap (λ k. left_after m held change p q (Some k) first (count first last)) (sym free) ∙ sym c.count_places.ensures) ∙ c.if-is_none.ensures;
     }
 
 pub returns : goal.returns
 returns g c =
-    let m = g.Q.Quantity.measure in
+    let m = g.B.Q.Quantity.measure in
     let held = g.B.Book.holdings c.args.book.now in
     let places = g.B.Book.places c.args.book.now in
     let admission = g.B.Book.admission c.args.book.now in
@@ -163,12 +163,12 @@ returns g c =
     let hp : p < 32 = omega arith in
     let hs : first ≤ last = omega arith in
     let hl : last < 100 = omega arith in
-    let told = by_room m held places admission change p first last q hp hs hl (sym c.in-default.ensures) c.in-default-check-welcome.ensures (Some _) c.apply-span.ensures.left in
+    let told = by_room m held places admission change p first last q hp hs hl (sym c.in_default.ensures) c.in_default-check_welcome.ensures (Some _) c.apply_span.ensures.left in
     record {
       answer = ap answer_number (told held q refl refl);
       alike = told;
-      after = c.apply-span.ensures.after ∙ done m held places admission change p first last q told;
-      places = c.apply-span.ensures.places;
-      admission = c.apply-span.ensures.admission;
-      layer = c.apply-span.ensures.layer;
+      after = c.apply_span.ensures.after ∙ done m held places admission change p first last q told;
+      places = c.apply_span.ensures.places;
+      admission = c.apply_span.ensures.admission;
+      layer = c.apply_span.ensures.layer;
     }

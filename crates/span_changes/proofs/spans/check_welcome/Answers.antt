@@ -7,7 +7,7 @@ use Rattle.span_changes.proofs.spans.check_welcome.Goals as goal
 
 pub returns-in-Lowering : goal.returns-in-Lowering
 returns-in-Lowering g c other r e f =
-    let m = g.Q.Quantity.measure in
+    let m = g.B.Q.Quantity.measure in
     let places = g.B.Book.places c.args.book.now in
     let admission = g.B.Book.admission c.args.book.now in
     let n = count c.args.first c.args.last in
@@ -15,7 +15,7 @@ returns-in-Lowering g c other r e f =
 
 pub returns-in-Raising : goal.returns-in-Raising
 returns-in-Raising g c other r e f =
-    let m = g.Q.Quantity.measure in
+    let m = g.B.Q.Quantity.measure in
     let places = g.B.Book.places c.args.book.now in
     let admission = g.B.Book.admission c.args.book.now in
-    c.check-admitted.ensures other r e f ∙ ap (λ k. first_of (unwelcome m other places admission k c.args.provider r) c.args.first (count c.args.first c.args.last)) (sym c.in-Raising.is)
+    c.check_admitted.ensures other r e f ∙ ap (λ k. first_of (unwelcome m other places admission k c.args.provider r) c.args.first (count c.args.first c.args.last)) (sym c.in-Raising.is)

@@ -17,7 +17,7 @@ use Rattle.span_changes.proofs.spans.move_span.Goals as goal
 
 pub returns-in-Err : goal.returns-in-Err
 returns-in-Err g c =
-    let m = g.Q.Quantity.measure in
+    let m = g.B.Q.Quantity.measure in
     let held = g.B.Book.holdings c.args.book.now in
     let places = g.B.Book.places c.args.book.now in
     let admission = g.B.Book.admission c.args.book.now in
@@ -37,9 +37,9 @@ returns-in-Err g c =
       layer = refl;
     }
 
-pub returns-in-Err-check-fits : goal.returns-in-Err-check-fits
-returns-in-Err-check-fits g c =
-    let m = g.Q.Quantity.measure in
+pub returns-in-Err-check_fits : goal.returns-in-Err-check_fits
+returns-in-Err-check_fits g c =
+    let m = g.B.Q.Quantity.measure in
     let held = g.B.Book.holdings c.args.book.now in
     let places = g.B.Book.places c.args.book.now in
     let admission = g.B.Book.admission c.args.book.now in
@@ -48,20 +48,20 @@ returns-in-Err-check-fits g c =
     let first = c.args.first in
     let last = c.args.last in
     let q = c.args.quantity in
-    let told = no_remainder m held places admission giver taker first last q (sym c.in-default.ensures.value) c.in-Err-check-fits.misfit (sym c.in-Err-check-fits.ensures) in
+    let told = no_remainder m held places admission giver taker first last q (sym c.in_default.ensures.value) c.in-Err-check_fits.misfit (sym c.in-Err-check_fits.ensures) in
     record {
       answer = ap answer_number (told held q refl refl);
       alike = told;
-      after = kept m held places admission giver taker first last q c.in-Err-check-fits.misfit told;
+      after = kept m held places admission giver taker first last q c.in-Err-check_fits.misfit told;
       passed = tt;
       places = refl;
       admission = refl;
       layer = refl;
     }
 
-pub returns-in-Err-check-fits-2 : goal.returns-in-Err-check-fits-2
-returns-in-Err-check-fits-2 g c =
-    let m = g.Q.Quantity.measure in
+pub returns-in-Err-check_fits-2 : goal.returns-in-Err-check_fits-2
+returns-in-Err-check_fits-2 g c =
+    let m = g.B.Q.Quantity.measure in
     let held = g.B.Book.holdings c.args.book.now in
     let places = g.B.Book.places c.args.book.now in
     let admission = g.B.Book.admission c.args.book.now in
@@ -70,20 +70,20 @@ returns-in-Err-check-fits-2 g c =
     let first = c.args.first in
     let last = c.args.last in
     let q = c.args.quantity in
-    let told = no_sum m held places admission giver taker first last q (sym c.in-default.ensures.value) (sym c.in-default-check-fits.ensures) c.in-Err-check-fits-2.misfit (sym c.in-Err-check-fits-2.ensures) in
+    let told = no_sum m held places admission giver taker first last q (sym c.in_default.ensures.value) (sym c.in_default-check_fits.ensures) c.in-Err-check_fits-2.misfit (sym c.in-Err-check_fits-2.ensures) in
     record {
       answer = ap answer_number (told held q refl refl);
       alike = told;
-      after = kept m held places admission giver taker first last q c.in-Err-check-fits-2.misfit told;
+      after = kept m held places admission giver taker first last q c.in-Err-check_fits-2.misfit told;
       passed = tt;
       places = refl;
       admission = refl;
       layer = refl;
     }
 
-pub returns-in-Err-check-admitted : goal.returns-in-Err-check-admitted
-returns-in-Err-check-admitted g c =
-    let m = g.Q.Quantity.measure in
+pub returns-in-Err-check_admitted : goal.returns-in-Err-check_admitted
+returns-in-Err-check_admitted g c =
+    let m = g.B.Q.Quantity.measure in
     let held = g.B.Book.holdings c.args.book.now in
     let places = g.B.Book.places c.args.book.now in
     let admission = g.B.Book.admission c.args.book.now in
@@ -92,20 +92,20 @@ returns-in-Err-check-admitted g c =
     let first = c.args.first in
     let last = c.args.last in
     let q = c.args.quantity in
-    let told = barred m held places admission giver taker first last q (sym c.in-default.ensures.value) (sym c.in-default-check-fits.ensures) (sym c.in-default-check-fits-2.ensures) c.in-Err-check-admitted.barred c.in-Err-check-admitted.ensures in
+    let told = barred m held places admission giver taker first last q (sym c.in_default.ensures.value) (sym c.in_default-check_fits.ensures) (sym c.in_default-check_fits-2.ensures) c.in-Err-check_admitted.barred c.in-Err-check_admitted.ensures in
     record {
       answer = ap answer_number (told held q refl refl);
       alike = told;
-      after = kept m held places admission giver taker first last q c.in-Err-check-admitted.barred told;
+      after = kept m held places admission giver taker first last q c.in-Err-check_admitted.barred told;
       passed = tt;
       places = refl;
       admission = refl;
       layer = refl;
     }
 
-pub returns-in-default-count-places : goal.returns-in-default-count-places
-returns-in-default-count-places g c =
-    let m = g.Q.Quantity.measure in
+pub returns-in_default-count_places : goal.returns-in_default-count_places
+returns-in_default-count_places g c =
+    let m = g.B.Q.Quantity.measure in
     let held = g.B.Book.holdings c.args.book.now in
     let places = g.B.Book.places c.args.book.now in
     let admission = g.B.Book.admission c.args.book.now in
@@ -115,8 +115,8 @@ returns-in-default-count-places g c =
     let last = c.args.last in
     let q = c.args.quantity in
     let free : c.free-free.result ≡ places - taken m held = omega (arith, c.free-free.ensures) in
-    let first-left : left_after m held Lowering giver q (Some (places - taken m held)) first (count first last) ≡ c.count-places.result = ap (λ k. left_after m held Lowering giver q (Some k) first (count first last)) (sym free) ∙ sym c.count-places.ensures in
-    let told = by_room m held places admission giver taker first last q (sym c.in-default.ensures.value) (sym c.in-default-check-fits.ensures) (sym c.in-default-check-fits-2.ensures) c.in-default-check-admitted.ensures None (ap (λ o. left_after m held Raising taker q o first (count first last)) (first-left ∙ c.in-default-count-places.is) ∙ left_nothing (λ t. is_zero m (held taker t)) (λ t. is_zero m (becomes m held Raising taker q t)) first (count first last)) in
+    let first-left : left_after m held Lowering giver q (Some (places - taken m held)) first (count first last) ≡ c.count_places.result = ap (λ k. left_after m held Lowering giver q (Some k) first (count first last)) (sym free) ∙ sym c.count_places.ensures in
+    let told = by_room m held places admission giver taker first last q (sym c.in_default.ensures.value) (sym c.in_default-check_fits.ensures) (sym c.in_default-check_fits-2.ensures) c.in_default-check_admitted.ensures None (ap (λ o. left_after m held Raising taker q o first (count first last)) (first-left ∙ c.in_default-count_places.is) ∙ left_nothing (λ t. is_zero m (held taker t)) (λ t. is_zero m (becomes m held Raising taker q t)) first (count first last)) in
     record {
       answer = ap answer_number (told held q refl refl);
       alike = told;
@@ -127,9 +127,9 @@ returns-in-default-count-places g c =
       layer = refl;
     }
 
-pub count-places-requires-2 : goal.count-places-requires-2
-count-places-requires-2 g c =
-    let m = g.Q.Quantity.measure in
+pub count_places-requires-2 : goal.count_places-requires-2
+count_places-requires-2 g c =
+    let m = g.B.Q.Quantity.measure in
     let held = g.B.Book.holdings c.args.book.now in
     let places = g.B.Book.places c.args.book.now in
     let admission = g.B.Book.admission c.args.book.now in
@@ -138,12 +138,12 @@ count-places-requires-2 g c =
     let first = c.args.first in
     let last = c.args.last in
     let q = c.args.quantity in
-    let sh = c.in-default.ensures.shape in
-    (sh.1, sh.2, sh.3, omega (arith, left_under_some (λ t. is_zero m (held giver t)) (λ t. is_zero m (becomes m held Lowering giver q t)) c.free-free.result first (count first last) c.in-Some.lowered (sym c.count-places.ensures ∙ c.in-Some.is)))
+    let sh = c.in_default.ensures.shape in
+    (sh.1, sh.2, sh.3, omega (arith, left_under_some (λ t. is_zero m (held giver t)) (λ t. is_zero m (becomes m held Lowering giver q t)) c.free-free.result first (count first last) c.in-Some.lowered (sym c.count_places.ensures ∙ c.in-Some.is)))
 
-pub returns-then-is-none : goal.returns-then-is-none
-returns-then-is-none g c =
-    let m = g.Q.Quantity.measure in
+pub returns-then-is_none : goal.returns-then-is_none
+returns-then-is_none g c =
+    let m = g.B.Q.Quantity.measure in
     let held = g.B.Book.holdings c.args.book.now in
     let places = g.B.Book.places c.args.book.now in
     let admission = g.B.Book.admission c.args.book.now in
@@ -153,9 +153,9 @@ returns-then-is-none g c =
     let last = c.args.last in
     let q = c.args.quantity in
     let free : c.free-free.result ≡ places - taken m held = omega (arith, c.free-free.ensures) in
-    let first-left : left_after m held Lowering giver q (Some (places - taken m held)) first (count first last) ≡ c.count-places.result = ap (λ k. left_after m held Lowering giver q (Some k) first (count first last)) (sym free) ∙ sym c.count-places.ensures in
-    let both_left : left_after m held Raising taker q (left_after m held Lowering giver q (Some (places - taken m held)) first (count first last)) first (count first last) ≡ c.count-places-2.result = ap (λ o. left_after m held Raising taker q o first (count first last)) (first-left ∙ c.in-Some.is) ∙ sym c.count-places-2.ensures in
-    let told = by_room m held places admission giver taker first last q (sym c.in-default.ensures.value) (sym c.in-default-check-fits.ensures) (sym c.in-default-check-fits-2.ensures) c.in-default-check-admitted.ensures None (both_left ∙ none_from c.count-places-2.result c.if-is-none.ensures) in
+    let first-left : left_after m held Lowering giver q (Some (places - taken m held)) first (count first last) ≡ c.count_places.result = ap (λ k. left_after m held Lowering giver q (Some k) first (count first last)) (sym free) ∙ sym c.count_places.ensures in
+    let both_left : left_after m held Raising taker q (left_after m held Lowering giver q (Some (places - taken m held)) first (count first last)) first (count first last) ≡ c.count_places-2.result = ap (λ o. left_after m held Raising taker q o first (count first last)) (first-left ∙ c.in-Some.is) ∙ sym c.count_places-2.ensures in
+    let told = by_room m held places admission giver taker first last q (sym c.in_default.ensures.value) (sym c.in_default-check_fits.ensures) (sym c.in_default-check_fits-2.ensures) c.in_default-check_admitted.ensures None (both_left ∙ none_from c.count_places-2.result c.if-is_none.ensures) in
     record {
       answer = ap answer_number (told held q refl refl);
       alike = told;
@@ -166,9 +166,9 @@ returns-then-is-none g c =
       layer = refl;
     }
 
-pub apply-span-requires : goal.apply-span-requires
-apply-span-requires g c =
-    let m = g.Q.Quantity.measure in
+pub apply_span-requires : goal.apply_span-requires
+apply_span-requires g c =
+    let m = g.B.Q.Quantity.measure in
     let held = g.B.Book.holdings c.args.book.now in
     let places = g.B.Book.places c.args.book.now in
     let admission = g.B.Book.admission c.args.book.now in
@@ -177,22 +177,22 @@ apply-span-requires g c =
     let first = c.args.first in
     let last = c.args.last in
     let q = c.args.quantity in
-    let sh = c.in-default.ensures.shape in
+    let sh = c.in_default.ensures.shape in
     let free : c.free-free.result ≡ places - taken m held = omega (arith, c.free-free.ensures) in
-    let first-left : left_after m held Lowering giver q (Some (places - taken m held)) first (count first last) ≡ c.count-places.result = ap (λ k. left_after m held Lowering giver q (Some k) first (count first last)) (sym free) ∙ sym c.count-places.ensures in
+    let first-left : left_after m held Lowering giver q (Some (places - taken m held)) first (count first last) ≡ c.count_places.result = ap (λ k. left_after m held Lowering giver q (Some k) first (count first last)) (sym free) ∙ sym c.count_places.ensures in
     record {
       provider = sh.0;
       order = sh.2;
       end = sh.3;
-      fits = all_fit m held giver first last q Lowering (sym c.in-default-check-fits.ensures);
+      fits = all_fit m held giver first last q Lowering (sym c.in_default-check_fits.ensures);
       welcome = λ t l h. tt;
       bound = omega (arith, c.free-free.ensures);
       room = ap is_some (first-left ∙ c.in-Some.is);
     }
 
-pub apply-span-requires-2 : goal.apply-span-requires-2
-apply-span-requires-2 g c =
-    let m = g.Q.Quantity.measure in
+pub apply_span-requires-2 : goal.apply_span-requires-2
+apply_span-requires-2 g c =
+    let m = g.B.Q.Quantity.measure in
     let held = g.B.Book.holdings c.args.book.now in
     let places = g.B.Book.places c.args.book.now in
     let admission = g.B.Book.admission c.args.book.now in
@@ -201,30 +201,30 @@ apply-span-requires-2 g c =
     let first = c.args.first in
     let last = c.args.last in
     let q = c.args.quantity in
-    let sh = c.in-default.ensures.shape in
+    let sh = c.in_default.ensures.shape in
     let free : c.free-free.result ≡ places - taken m held = omega (arith, c.free-free.ensures) in
-    let first-left : left_after m held Lowering giver q (Some (places - taken m held)) first (count first last) ≡ c.count-places.result = ap (λ k. left_after m held Lowering giver q (Some k) first (count first last)) (sym free) ∙ sym c.count-places.ensures in
-    let both_left : left_after m held Raising taker q (left_after m held Lowering giver q (Some (places - taken m held)) first (count first last)) first (count first last) ≡ c.count-places-2.result = ap (λ o. left_after m held Raising taker q o first (count first last)) (first-left ∙ c.in-Some.is) ∙ sym c.count-places-2.ensures in
-    let held1 = g.B.Book.holdings c.apply-span.new.book in
-    let low = c.apply-span.ensures.after in
+    let first-left : left_after m held Lowering giver q (Some (places - taken m held)) first (count first last) ≡ c.count_places.result = ap (λ k. left_after m held Lowering giver q (Some k) first (count first last)) (sym free) ∙ sym c.count_places.ensures in
+    let both_left : left_after m held Raising taker q (left_after m held Lowering giver q (Some (places - taken m held)) first (count first last)) first (count first last) ≡ c.count_places-2.result = ap (λ o. left_after m held Raising taker q o first (count first last)) (first-left ∙ c.in-Some.is) ∙ sym c.count_places-2.ensures in
+    let held1 = g.B.Book.holdings c.apply_span.new.book in
+    let low = c.apply_span.ensures.after in
     record {
       provider = sh.1;
       order = sh.2;
       end = sh.3;
-      fits = λ t l h. still_takes m held held1 giver taker q first (last + 1) sh.4 low t (all_fit m held taker first last q Raising (sym c.in-default-check-fits-2.ensures) t l h);
-      welcome = λ t l h a e. ap (λ adm. barred_sum (adm taker t) taker t (m.joined a q)) c.apply-span.ensures.admission ∙ still_welcome m held held1 giver taker q first (last + 1) sh.4 low places admission t (welcome_from m held places admission Raising taker first last q c.in-default-check-admitted.ensures t l h) a e;
-      bound = omega (arith, c.apply-span.ensures.bound, c.apply-span.ensures.places);
+      fits = λ t l h. still_takes m held held1 giver taker q first (last + 1) sh.4 low t (all_fit m held taker first last q Raising (sym c.in_default-check_fits-2.ensures) t l h);
+      welcome = λ t l h a e. ap (λ adm. barred_sum (adm taker t) taker t (m.joined a q)) c.apply_span.ensures.admission ∙ still_welcome m held held1 giver taker q first (last + 1) sh.4 low places admission t (welcome_from m held places admission Raising taker first last q c.in_default-check_admitted.ensures t l h) a e;
+      bound = omega (arith, c.apply_span.ensures.bound, c.apply_span.ensures.places);
       room =
           ap is_some
-          (ap (λ n. left_after m held1 Raising taker q (Some (n - taken m held1)) first (count first last)) c.apply-span.ensures.places
+          (ap (λ n. left_after m held1 Raising taker q (Some (n - taken m held1)) first (count first last)) c.apply_span.ensures.places
           ∙ (same_left m held held1 giver taker q first (last + 1) sh.4 low (Some (places - taken m held1)) (count first last)
-          ∙ (ap (λ o. left_after m held Raising taker q o first (count first last)) (sym c.apply-span.ensures.left) ∙ both_left)))
-          ∙ c.if-is-none.ensures;
+          ∙ (ap (λ o. left_after m held Raising taker q o first (count first last)) (sym c.apply_span.ensures.left) ∙ both_left)))
+          ∙ c.if-is_none.ensures;
     }
 
 pub returns : goal.returns
 returns g c =
-    let m = g.Q.Quantity.measure in
+    let m = g.B.Q.Quantity.measure in
     let held = g.B.Book.holdings c.args.book.now in
     let places = g.B.Book.places c.args.book.now in
     let admission = g.B.Book.admission c.args.book.now in
@@ -233,21 +233,21 @@ returns g c =
     let first = c.args.first in
     let last = c.args.last in
     let q = c.args.quantity in
-    let sh = c.in-default.ensures.shape in
+    let sh = c.in_default.ensures.shape in
     let free : c.free-free.result ≡ places - taken m held = omega (arith, c.free-free.ensures) in
-    let first-left : left_after m held Lowering giver q (Some (places - taken m held)) first (count first last) ≡ c.count-places.result = ap (λ k. left_after m held Lowering giver q (Some k) first (count first last)) (sym free) ∙ sym c.count-places.ensures in
-    let both_left : left_after m held Raising taker q (left_after m held Lowering giver q (Some (places - taken m held)) first (count first last)) first (count first last) ≡ c.count-places-2.result = ap (λ o. left_after m held Raising taker q o first (count first last)) (first-left ∙ c.in-Some.is) ∙ sym c.count-places-2.ensures in
-    let held1 = g.B.Book.holdings c.apply-span.new.book in
-    let low = c.apply-span.ensures.after in
-    let some = some_from c.count-places-2.result c.if-is-none.ensures in
-    let told = by_room m held places admission giver taker first last q (sym c.in-default.ensures.value) (sym c.in-default-check-fits.ensures) (sym c.in-default-check-fits-2.ensures) c.in-default-check-admitted.ensures (Some some.0) (both_left ∙ some.1) in
-    let now = c.apply-span-2.ensures.after ∙ moved_is m held held1 giver taker q first (last + 1) sh.4 low in
+    let first-left : left_after m held Lowering giver q (Some (places - taken m held)) first (count first last) ≡ c.count_places.result = ap (λ k. left_after m held Lowering giver q (Some k) first (count first last)) (sym free) ∙ sym c.count_places.ensures in
+    let both_left : left_after m held Raising taker q (left_after m held Lowering giver q (Some (places - taken m held)) first (count first last)) first (count first last) ≡ c.count_places-2.result = ap (λ o. left_after m held Raising taker q o first (count first last)) (first-left ∙ c.in-Some.is) ∙ sym c.count_places-2.ensures in
+    let held1 = g.B.Book.holdings c.apply_span.new.book in
+    let low = c.apply_span.ensures.after in
+    let some = some_from c.count_places-2.result c.if-is_none.ensures in
+    let told = by_room m held places admission giver taker first last q (sym c.in_default.ensures.value) (sym c.in_default-check_fits.ensures) (sym c.in_default-check_fits-2.ensures) c.in_default-check_admitted.ensures (Some some.0) (both_left ∙ some.1) in
+    let now = c.apply_span-2.ensures.after ∙ moved_is m held held1 giver taker q first (last + 1) sh.4 low in
     record {
       answer = ap answer_number (told held q refl refl);
       alike = told;
       after = now ∙ done m held places admission giver taker first last q told;
       passed = λ x u. ap (λ h. m.plus (share m giver first last (m.amount q) x u) (h x u)) now ∙ move_passes m held places admission giver taker first last q (sym (told held q refl refl)) x u;
-      places = c.apply-span-2.ensures.places ∙ c.apply-span.ensures.places;
-      admission = c.apply-span-2.ensures.admission ∙ c.apply-span.ensures.admission;
-      layer = c.apply-span-2.ensures.layer ∙ c.apply-span.ensures.layer;
+      places = c.apply_span-2.ensures.places ∙ c.apply_span.ensures.places;
+      admission = c.apply_span-2.ensures.admission ∙ c.apply_span.ensures.admission;
+      layer = c.apply_span-2.ensures.layer ∙ c.apply_span.ensures.layer;
     }
