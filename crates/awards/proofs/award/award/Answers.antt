@@ -8,12 +8,12 @@ use Rattle.awards.proofs.award.award.Goals as goal
 
 pub returns-in-Err : goal.returns-in-Err
 returns-in-Err g c =
-    let m = g.Q.Quantity.measure in
+    let m = g.O.Q.Quantity.measure in
     let held = g.O.Book.holdings c.args.obligations.now in
     let places = g.O.Book.places c.args.obligations.now in
     let admission = g.O.Book.admission c.args.obligations.now in
-    let tenths = g.Q.ReserveQuantity.tenths_in in
-    let directions = g.Q.ReserveQuantity.directions in
+    let tenths = g.O.Q.ReserveQuantity.tenths_in in
+    let directions = g.O.Q.ReserveQuantity.directions in
     let before = view c.args.sheet.now in
     let quarters = c.args.quarters in
     let provider = c.args.provider in
@@ -31,66 +31,66 @@ returns-in-Err g c =
       sheet = refused_sheet m held places admission directions quarters provider block quantity prices tenths before c.in-Err.refusal why;
     }
 
-pub returns-in-Err-raise-span : goal.returns-in-Err-raise-span
-returns-in-Err-raise-span g c =
-    let m = g.Q.Quantity.measure in
+pub returns-in-Err-raise_span : goal.returns-in-Err-raise_span
+returns-in-Err-raise_span g c =
+    let m = g.O.Q.Quantity.measure in
     let held = g.O.Book.holdings c.args.obligations.now in
     let places = g.O.Book.places c.args.obligations.now in
     let admission = g.O.Book.admission c.args.obligations.now in
-    let tenths = g.Q.ReserveQuantity.tenths_in in
-    let directions = g.Q.ReserveQuantity.directions in
+    let tenths = g.O.Q.ReserveQuantity.tenths_in in
+    let directions = g.O.Q.ReserveQuantity.directions in
     let before = view c.args.sheet.now in
     let quarters = c.args.quarters in
     let provider = c.args.provider in
     let block = c.args.block in
     let quantity = c.args.quantity in
     let prices = c.args.prices.now in
-    let first = c.block-first-first.result in
-    let last = c.block-last-last.result in
-    let clear = sym c.in-default.ensures in
-    let span = refused_span m held places admission directions quarters provider block quantity prices before.awards clear first last c.block-first-first.ensures c.block-last-last.ensures.value in
-    let refusal = c.in-Err-raise-span.refusal in
-    let why = sym (c.in-Err-raise-span.ensures.alike held quantity refl refl) in
+    let first = c.block_first-first.result in
+    let last = c.block_last-last.result in
+    let clear = sym c.in_default.ensures in
+    let span = refused_span m held places admission directions quarters provider block quantity prices before.awards clear first last c.block_first-first.ensures c.block_last-last.ensures.value in
+    let refusal = c.in-Err-raise_span.refusal in
+    let why = sym (c.in-Err-raise_span.ensures.alike held quantity refl refl) in
     record {
-      answer = c.in-Err-raise-span.ensures.answer ∙ ap answer_number (sym span);
-      alike = λ other r e f. c.in-Err-raise-span.ensures.alike other r e f ∙ sym (refused_span m other places admission directions quarters provider block r prices before.awards (conditions_alike m directions before.awards provider block prices quantity r f ∙ clear) first last c.block-first-first.ensures c.block-last-last.ensures.value);
-      after = c.raise-span.ensures.after ∙ raised_after m held places admission directions quarters provider block quantity prices before.awards clear first last c.block-first-first.ensures c.block-last-last.ensures.value;
-      places = c.raise-span.ensures.places;
-      admission = c.raise-span.ensures.admission;
-      layer = c.raise-span.ensures.layer;
+      answer = c.in-Err-raise_span.ensures.answer ∙ ap answer_number (sym span);
+      alike = λ other r e f. c.in-Err-raise_span.ensures.alike other r e f ∙ sym (refused_span m other places admission directions quarters provider block r prices before.awards (conditions_alike m directions before.awards provider block prices quantity r f ∙ clear) first last c.block_first-first.ensures c.block_last-last.ensures.value);
+      after = c.raise_span.ensures.after ∙ raised_after m held places admission directions quarters provider block quantity prices before.awards clear first last c.block_first-first.ensures c.block_last-last.ensures.value;
+      places = c.raise_span.ensures.places;
+      admission = c.raise_span.ensures.admission;
+      layer = c.raise_span.ensures.layer;
       sheet = refused_sheet m held places admission directions quarters provider block quantity prices tenths before refusal (span ∙ why);
     }
 
 pub returns : goal.returns
 returns g c =
-    let m = g.Q.Quantity.measure in
+    let m = g.O.Q.Quantity.measure in
     let held = g.O.Book.holdings c.args.obligations.now in
     let places = g.O.Book.places c.args.obligations.now in
     let admission = g.O.Book.admission c.args.obligations.now in
-    let tenths = g.Q.ReserveQuantity.tenths_in in
-    let directions = g.Q.ReserveQuantity.directions in
+    let tenths = g.O.Q.ReserveQuantity.tenths_in in
+    let directions = g.O.Q.ReserveQuantity.directions in
     let before = view c.args.sheet.now in
     let quarters = c.args.quarters in
     let provider = c.args.provider in
     let block = c.args.block in
     let quantity = c.args.quantity in
     let prices = c.args.prices.now in
-    let first = c.block-first-first.result in
-    let last = c.block-last-last.result in
-    let clear = sym c.in-default.ensures in
-    let span = refused_span m held places admission directions quarters provider block quantity prices before.awards clear first last c.block-first-first.ensures c.block-last-last.ensures.value in
-    let raised = sym (c.in-default-raise-span.ensures.alike held quantity refl refl) in
+    let first = c.block_first-first.result in
+    let last = c.block_last-last.result in
+    let clear = sym c.in_default.ensures in
+    let span = refused_span m held places admission directions quarters provider block quantity prices before.awards clear first last c.block_first-first.ensures c.block_last-last.ensures.value in
+    let raised = sym (c.in_default-raise_span.ensures.alike held quantity refl refl) in
     let free = span ∙ raised in
-    let earned = c.award-earnings-earned.result in
-    let earns = c.award-earnings-earned.ensures.value ∙ ap (award_earns (tenths quantity) prices directions) c.block-count.ensures.value in
-    let bound = c.award-earnings-earned.ensures.bound (price_bounds m held places admission directions quarters provider block quantity prices before.awards clear) (subst (λ n. n ≤ 100) (sym c.block-count.ensures.value) (count_bound m held places admission directions quarters provider block quantity prices before.awards clear first last c.block-first-first.ensures c.block-last-last.ensures.value raised)) in
+    let earned = c.award_earnings-earned.result in
+    let earns = c.award_earnings-earned.ensures.value ∙ ap (award_earns (tenths quantity) prices directions) c.block_count.ensures.value in
+    let bound = c.award_earnings-earned.ensures.bound (price_bounds m held places admission directions quarters provider block quantity prices before.awards clear) (subst (λ n. n ≤ 100) (sym c.block_count.ensures.value) (count_bound m held places admission directions quarters provider block quantity prices before.awards clear first last c.block_first-first.ensures c.block_last-last.ensures.value raised)) in
     let enters : enterable provider earned before ≡ true = can_enter provider earned before (provider_bound m held places admission directions quarters provider block quantity prices before.awards clear) (award_bound m held places admission directions quarters provider block quantity prices before.awards clear) bound in
     record {
       answer = ap answer_number (sym free);
-      alike = λ other r e f. c.in-default-raise-span.ensures.alike other r e f ∙ sym (refused_span m other places admission directions quarters provider block r prices before.awards (conditions_alike m directions before.awards provider block prices quantity r f ∙ clear) first last c.block-first-first.ensures c.block-last-last.ensures.value);
-      after = c.raise-span.ensures.after ∙ raised_after m held places admission directions quarters provider block quantity prices before.awards clear first last c.block-first-first.ensures c.block-last-last.ensures.value;
-      places = c.raise-span.ensures.places;
-      admission = c.raise-span.ensures.admission;
-      layer = c.raise-span.ensures.layer;
+      alike = λ other r e f. c.in_default-raise_span.ensures.alike other r e f ∙ sym (refused_span m other places admission directions quarters provider block r prices before.awards (conditions_alike m directions before.awards provider block prices quantity r f ∙ clear) first last c.block_first-first.ensures c.block_last-last.ensures.value);
+      after = c.raise_span.ensures.after ∙ raised_after m held places admission directions quarters provider block quantity prices before.awards clear first last c.block_first-first.ensures c.block_last-last.ensures.value;
+      places = c.raise_span.ensures.places;
+      admission = c.raise_span.ensures.admission;
+      layer = c.raise_span.ensures.layer;
       sheet = c.enter.ensures ∙ (cond-true (enterable provider earned before) (entered provider earned before) before enters ∙ taken_sheet m held places admission directions quarters provider block quantity prices tenths before earned earns free);
     }

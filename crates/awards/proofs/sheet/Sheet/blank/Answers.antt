@@ -10,8 +10,8 @@ either : (b : Bool) (x : Bool) → x ≡ false → cond b x false ≡ false
 either true x e = e
 either false x e = refl
 
-pub invariant-of-result : goal.invariant-of-result
-invariant-of-result c = (omega arith, (earned_none 32, tt))
+pub invariant_of-result : goal.invariant_of-result
+invariant_of-result c = record { few = omega arith; bounded = earned_none 32 }
 
 pub returns : goal.returns
 returns c = λ i. record { earned = λ p. get_or_repeated 32 p 0 i; exempt = λ p t. either (in_range p t) _ (get_or_repeated_rows 32 100 p t false) i; awards = 0 }
