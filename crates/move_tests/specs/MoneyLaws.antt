@@ -1,6 +1,6 @@
 -- Sums of money stand for whole numbers of cents and show the laws of a quantity.
 use Rattle.std.specs.Prelude.{◌≡◌, ℕ, ◌<◌, ◌≤◌, Bool, true, false, leb, ℤ, pos, negsuc, ◌+ℤ◌, ◌-ℤ◌, Some, None, Option, MatchOption, ◌≢◌, nat_le, unsigned_abs, refl}
-use Rattle.std.proofs.Common.{ap, arith, leb-true, leb-false, eqb-true, eq-eqb}
+use Rattle.std.proofs.Common.{ap, arith, leb-false, eqb-true, eq-eqb}
 use mathlib.Core.HLevel.{is_prop→PathP}
 use Rattle.std.proofs.Math.Bridge.{le_prop}
 use Rattle.std.proofs.lemmas.Int.{ints}
