@@ -1,6 +1,6 @@
 -- The gate's list, request by request.
-use Rattle.std.proofs.Common.{◌≡◌, ℕ, zero, suc, ◌+◌, ◌-◌, ◌<◌, ◌≤◌, Bool, true, false, cond, List, [], ◌∷◌, ◌++◌, length, get_or, take, drop, set, Some, None, Option, sym, refl, ap, ◌∙◌, add-one, arith, length-append, length-take}
-use Rattle.std.proofs.lemmas.List.{take_more, drop_more, set_at, append_assoc, take_all, drop_all, append-nil}
+use Rattle.std.proofs.Common.{◌≡◌, ℕ, zero, suc, ◌+◌, ◌<◌, ◌≤◌, List, [], ◌∷◌, ◌++◌, length, take, drop, set, Some, None, Option, sym, refl, ap, ◌∙◌, add-one, arith, length-take}
+use Rattle.std.proofs.lemmas.List.{set_at, append_assoc, take_all, drop_all, append-nil}
 use Rattle.std.specs.List.{slice_get}
 use Rattle.quantity.specs.Measure.{Measure}
 use Rattle.book.specs.Grid.{Grid, amounts}
@@ -12,7 +12,7 @@ use Rattle.requests.specs.declared.request.Request.{Request}
 use Rattle.requests.specs.Announcing.{changed_of, changed_at}
 use Rattle.gates.specs.declared.gate.Gate.{Gate}
 use Rattle.gates.specs.declared.gate.Gate.TheVariants.{First, Second}
-use Rattle.gates.specs.Gates.{given_status, outcome, judged, cause, settled, passed_on, passed_at, after_moves, gated, Decided, Judged}
+use Rattle.gates.specs.Gates.{judged, cause, settled, passed_on, passed_at, after_moves, gated, Decided, Judged}
 
 some_same : {A : Type 0} (x y : A) → ◌≡◌ {A = Option A} (Some x) (Some y) → x ≡ y
 some_same x y e = cc

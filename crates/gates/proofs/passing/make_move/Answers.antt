@@ -1,7 +1,7 @@
-use Rattle.std.proofs.Common.{◌≡◌, ◌+◌, sym, refl, ap, ◌∙◌}
-use Rattle.book.specs.Grid.{Grid, amounts}
+use Rattle.std.proofs.Common.{◌+◌, sym, refl, ap, ◌∙◌}
+use Rattle.book.specs.Grid.{amounts}
 use Rattle.refusals.specs.First.{unless_refused}
-use Rattle.span_changes.specs.Moves.{moved, moved_holdings, move_refusal, move_after}
+use Rattle.span_changes.specs.Moves.{moved, move_refusal, move_after}
 use Rattle.gates.specs.Gates.{passing, outcome}
 use Rattle.gates.proofs.Moved.{left_alike}
 use Rattle.gates.proofs.passing.make_move.Goals as goal
@@ -9,14 +9,14 @@ use Rattle.gates.proofs.passing.make_move.Goals as goal
 pub returns : goal.returns
 unfolding move_after
 returns g c =
-    let m = g.Q.Quantity.measure in
+    let m = g.O.Q.Quantity.measure in
     let held = g.O.Book.holdings c.args.obligations.now in
     let r = c.args.request in
-    let q = c.passing-quantity-quantity.ensures in
-    let told = c.move-span-made.ensures in
+    let q = c.passing_quantity-quantity.ensures in
+    let told = c.move_span-made.ensures in
     let real = told.alike held (passing m r.giving) refl (ap m.amount (sym q)) in
     record {
-      status = λ other e. c.status-of-move.ensures ∙ ap outcome (told.alike other (passing m r.giving) e (ap m.amount (sym q)));
+      status = λ other e. c.status_of_move.ensures ∙ ap outcome (told.alike other (passing m r.giving) e (ap m.amount (sym q)));
       after =
           λ other e.
           told.after

@@ -1,4 +1,4 @@
-use Rattle.std.proofs.Common.{◌≡◌, length, take}
+use Rattle.std.proofs.Common.{◌≡◌, take}
 use Rattle.book.specs.Grid.{amounts}
 use Rattle.gates.specs.Gates.{after_moves}
 use Rattle.gates.proofs.Lists.{midway}
@@ -6,8 +6,8 @@ use Rattle.gates.proofs.passing.pass_gate.Given as goal
 
 abbrev pub invariant-loop-place : goal.invariant-loop-place
 invariant-loop-place g l =
-    (g.L.Records.contents l.requests ≡ midway g.Q.Quantity.measure (g.O.Book.places l.initial.obligations) (g.O.Book.admission l.initial.obligations) l.gate (g.O.Book.holdings l.initial.obligations) (g.L.Records.contents l.initial.requests) l.place)
-    × (amounts g.Q.Quantity.measure (g.O.Book.holdings l.obligations) ≡ amounts g.Q.Quantity.measure (after_moves g.Q.Quantity.measure (g.O.Book.places l.initial.obligations) (g.O.Book.admission l.initial.obligations) (g.O.Book.holdings l.initial.obligations) (take l.place (g.L.Records.contents l.initial.requests))))
+    (g.L.Records.contents l.requests ≡ midway g.O.Q.Quantity.measure (g.O.Book.places l.initial.obligations) (g.O.Book.admission l.initial.obligations) l.gate (g.O.Book.holdings l.initial.obligations) (g.L.Records.contents l.initial.requests) l.place)
+    × (amounts g.O.Q.Quantity.measure (g.O.Book.holdings l.obligations) ≡ amounts g.O.Q.Quantity.measure (after_moves g.O.Q.Quantity.measure (g.O.Book.places l.initial.obligations) (g.O.Book.admission l.initial.obligations) (g.O.Book.holdings l.initial.obligations) (take l.place (g.L.Records.contents l.initial.requests))))
     × (g.O.Book.places l.obligations ≡ g.O.Book.places l.initial.obligations)
     × (g.O.Book.admission l.obligations ≡ g.O.Book.admission l.initial.obligations)
     × (g.O.Book.layer_number l.obligations ≡ g.O.Book.layer_number l.initial.obligations)
