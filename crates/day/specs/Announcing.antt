@@ -1,5 +1,5 @@
 -- What an announcement answers and changes, by the day, the deadline and the list.
-use Rattle.std.specs.Prelude.{ℕ, Bool, not, ◌&&◌, ◌||◌, List, [], ◌∷◌, ◌++◌, ℤ, negsuc, Option, ◌==◌, int_lt, nat_le, nat_lt}
+use Rattle.std.specs.Prelude.{ℕ, not, ◌&&◌, List, [], ◌∷◌, ◌++◌, ℤ, negsuc, Option, ◌==◌, int_lt, nat_le, nat_lt}
 use Rattle.quantity.specs.Measure.{Measure, is_zero}
 use Rattle.refusals.specs.declared.refusal.Refusal.{Refusal}
 use Rattle.refusals.specs.declared.refusal.Refusal.TheVariants.{NoSuchProvider, NoSuchSpan, SameProvider, ZeroQuantity, MinuteBeforeLast, TooLate}

@@ -7,7 +7,7 @@ use quantity::interface::Quantity;
 // 0 for a zero holding, 1 for any other.
 fn count_one<B: Book>(book: &B, provider: u8, quarter: u8) -> usize
     requires { (provider < 32) × (quarter < 100) }
-    ensures value { result ≡ filled Q-as-Quantity.measure (B.Book.holdings book.now) provider quarter }
+    ensures value { result ≡ filled B.Q.Quantity.measure (B.Book.holdings book.now) provider quarter }
     ensures bound { result ≤ 1 }
 {
     if book
@@ -23,7 +23,7 @@ fn count_one<B: Book>(book: &B, provider: u8, quarter: u8) -> usize
 // How many holdings of a provider are not zero.
 fn count_quarters<B: Book>(book: &B, provider: u8) -> usize
     requires { provider < 32 }
-    ensures value { result ≡ total (filled Q-as-Quantity.measure (B.Book.holdings book.now) provider) 100 }
+    ensures value { result ≡ total (filled B.Q.Quantity.measure (B.Book.holdings book.now) provider) 100 }
     ensures bound { result ≤ 100 }
 {
     let mut count = 0;
@@ -35,7 +35,7 @@ fn count_quarters<B: Book>(book: &B, provider: u8) -> usize
 
 /// How many holdings of a book are not zero.
 pub fn count_holdings<B: Book>(book: &B) -> usize
-    ensures { result ≡ taken Q-as-Quantity.measure (B.Book.holdings book.now) }
+    ensures { result ≡ taken B.Q.Quantity.measure (B.Book.holdings book.now) }
 {
     let mut count = 0;
     for provider in 0..32u8 {

@@ -1,8 +1,8 @@
-use Rattle.std.proofs.Common.{◌≡◌, [], ◌∷◌, sym, refl, ap, ◌∙◌}
-use Rattle.refusals.specs.First.{first_some, unless_refused}
+use Rattle.std.proofs.Common.{[], ◌∷◌, sym, refl, ap, ◌∙◌}
+use Rattle.refusals.specs.First.{unless_refused}
 use Rattle.refusals.proofs.Firsts.{alone, front_stops, front_passes}
 use Rattle.requests.specs.Announcing.{announcement_refusal, announcement_list}
-use Rattle.day.specs.Announcing.{outline, outline_refusal, announce_refusal, announced_list}
+use Rattle.day.specs.Announcing.{outline, announce_refusal, announced_list}
 use Rattle.day.proofs.announcing.announce_before.Goals as goal
 
 pub returns-in-Err : goal.returns-in-Err
@@ -28,12 +28,12 @@ returns g c =
     let xs = g.L.Records.contents c.args.requests.now in
     let places = g.L.Records.places c.args.requests.now in
     let said = c.args.said in
-    let e = c.in-default.ensures in
+    let e = c.in_default.ensures in
     let last = announcement_refusal c.args.joining xs places said.giver said.taker said.first said.last in
     record {
-      answer = c.put-announcement-placed.ensures.answer ∙ sym (front_passes (outline m c.args.day.now c.args.joining said) (last ∷ []) (sym e) ∙ alone last);
-      place = c.put-announcement-placed.ensures.place;
-      contents = c.put-announcement-placed.ensures.contents ∙ ap (λ o. unless_refused o (announcement_list m c.args.joining xs places said.side said.giver said.taker said.first said.last said.quantity) xs) e;
-      places = c.put-announcement-placed.ensures.places;
-      day = c.day-after.ensures;
+      answer = c.put_announcement-placed.ensures.answer ∙ sym (front_passes (outline m c.args.day.now c.args.joining said) (last ∷ []) (sym e) ∙ alone last);
+      place = c.put_announcement-placed.ensures.place;
+      contents = c.put_announcement-placed.ensures.contents ∙ ap (λ o. unless_refused o (announcement_list m c.args.joining xs places said.side said.giver said.taker said.first said.last said.quantity) xs) e;
+      places = c.put_announcement-placed.ensures.places;
+      day = c.day_after.ensures;
     }
