@@ -2,7 +2,6 @@
 use Rattle.std.specs.Prelude.{ℕ, List, [], ◌∷◌, Some, None, Option}
 use Rattle.refusals.specs.declared.refusal.Refusal.{Refusal}
 use Rattle.refusals.specs.Numbers.{refusal_number}
-use Rattle.requests.specs.declared.request.Status.{Status}
 use Rattle.requests.specs.Numbers.{status_number}
 use Rattle.day_calls.specs.declared.calls.NotCalled.{NotCalled}
 use Rattle.day_calls.specs.declared.calls.NotCalled.TheVariants.{NoSuchDay, NotInThisStage, NoMemory}

@@ -1,5 +1,5 @@
 -- What a day means, and what each call answers and makes of it.
-use Rattle.std.specs.Prelude.{ℕ, Bool, List, [], ◌∷◌, take, ℤ, Some, None, Option}
+use Rattle.std.specs.Prelude.{ℕ, List, [], ◌∷◌, take, Option}
 use Rattle.std.specs.List.{slice_get}
 use Rattle.quantity.specs.Measure.{Measure}
 use Rattle.book.specs.Grid.{Grid, amounts}
@@ -18,7 +18,6 @@ use Rattle.gates.specs.declared.gate.Gate.{Gate}
 use Rattle.gates.specs.declared.gate.Gate.TheVariants.{First, Second}
 use Rattle.gates.specs.Gates.{after_moves, gated}
 use Rattle.day.specs.declared.stages.Day.{Day}
-use Rattle.day.specs.declared.stages.Announcing.{Announcing}
 use Rattle.day.specs.declared.announcing.Announcement.{Announcement}
 use Rattle.day.specs.Announcing.{at_minute, announce_refusal, announced_list, announced_day}
 use Rattle.day.specs.Opening.{opening_refusal, opened_day}

@@ -1,11 +1,10 @@
 -- Worked figures over volumes of FCR.
-use Rattle.std.specs.Prelude.{◌≡◌, ℕ, Bool, cond, ◌&&◌, List, [], ◌∷◌, map, ℤ, negsuc, Some, None, Option, ◌==◌, nat_le}
+use Rattle.std.specs.Prelude.{◌≡◌, ℕ, cond, ◌&&◌, List, [], ◌∷◌, map, ℤ, negsuc, Some, None, ◌==◌, nat_le}
 use Rattle.quantity.specs.declared.fcr.Volume.{Volume}
 use Rattle.quantity.specs.Fcr.{no_volume, volume_told, volume_tenths}
 use Rattle.quantity.specs.FcrLaws.{volume_measure}
 use Rattle.book.specs.Grid.{Grid}
 use Rattle.book.specs.Calls.{everything}
-use Rattle.refusals.specs.declared.refusal.Refusal.{Refusal}
 use Rattle.refusals.specs.declared.refusal.Refusal.TheVariants.{NoRemainder, TooLate}
 use Rattle.requests.specs.declared.request.Side.TheVariants.{Giver}
 use Rattle.requests.specs.declared.request.Status.{Status}
@@ -16,7 +15,6 @@ use Rattle.awards.specs.Blocks.{first_of_block, last_of_block, count_of_block}
 use Rattle.awards.specs.Awards.{award_earns}
 use Rattle.gates.specs.declared.gate.Gate.TheVariants.{First}
 use Rattle.gates.specs.Gates.{after_moves, gated}
-use Rattle.day.specs.declared.stages.Day.{Day}
 use Rattle.day.specs.declared.announcing.Announcement.{Announcement}
 use Rattle.day.specs.Announcing.{announce_refusal}
 use Rattle.day.specs.Opening.{opened_day}

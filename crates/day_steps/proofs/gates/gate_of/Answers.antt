@@ -14,7 +14,7 @@ use Rattle.day_steps.proofs.gates.gate_of.Goals as goal
 
 pub returns-in-Err : goal.returns-in-Err
 returns-in-Err g c =
-    let m = g.Q.Quantity.measure in
+    let m = g.O.Q.Quantity.measure in
     let held = g.O.Book.holdings c.args.obligations.now in
     let places = g.O.Book.places c.args.obligations.now in
     let admission = g.O.Book.admission c.args.obligations.now in
@@ -37,17 +37,17 @@ returns-in-Err g c =
       room = told.room;
     }
 
-pub returns-in-Err-second-gate : goal.returns-in-Err-second-gate
-returns-in-Err-second-gate g c =
-    let m = g.Q.Quantity.measure in
+pub returns-in-Err-second_gate : goal.returns-in-Err-second_gate
+returns-in-Err-second_gate g c =
+    let m = g.O.Q.Quantity.measure in
     let held = g.O.Book.holdings c.args.obligations.now in
     let places = g.O.Book.places c.args.obligations.now in
     let admission = g.O.Book.admission c.args.obligations.now in
     let xs = g.L.Records.contents c.args.requests.now in
     let minute = c.args.minute in
     let day = c.in-Reconciling.reconciling.day in
-    let x = c.in-Err-second-gate.back.1 in
-    let told = c.in-Err-second-gate.ensures in
+    let x = c.in-Err-second_gate.back.1 in
+    let told = c.in-Err-second_gate.ensures in
     let st = c.in-Reconciling.is in
     let z = to_z-of_z w32 minute c.ranges.minute in
     let e : Some x ≡ gate_refusal Second day minute = answer_once (Some x) (gate_refusal Second day (to_z w32 (of_z w32 minute))) told.answer ∙ ap (gate_refusal Second day) z in

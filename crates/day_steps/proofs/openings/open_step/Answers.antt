@@ -1,4 +1,4 @@
-use Rattle.std.proofs.Common.{◌≡◌, [], ◌∷◌, Some, None, sym, refl, ap, ◌∙◌}
+use Rattle.std.proofs.Common.{◌≡◌, [], ◌∷◌, Some, sym, ap, ◌∙◌}
 use Rattle.refusals.specs.First.{unless_refused}
 use Rattle.refusals.proofs.Once.{answer_once}
 use Rattle.awards.specs.Sheets.{view, blank_view}
@@ -10,7 +10,7 @@ use Rattle.day_steps.proofs.openings.open_step.Goals as goal
 
 pub returns-in-Err : goal.returns-in-Err
 returns-in-Err g c =
-    let o = opening_refusal g.Q.Quantity.measure c.args.number c.args.quarters (g.O.Book.holdings c.args.obligations.now) (g.B.Book.holdings c.args.bids.now) (g.L.Records.contents c.args.requests.now) in
+    let o = opening_refusal g.O.Q.Quantity.measure c.args.number c.args.quarters (g.O.Book.holdings c.args.obligations.now) (g.B.Book.holdings c.args.bids.now) (g.L.Records.contents c.args.requests.now) in
     let e : Some c.in-Err.refusal ≡ o = answer_once (Some c.in-Err.refusal) o c.in-Err.ensures.answer in
     let st = sym c.in-Unopened.is in
     let was = c.args.stage.now in
