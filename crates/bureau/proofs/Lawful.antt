@@ -1,10 +1,8 @@
 -- One call of a bureau keeps the law.
-use Rattle.std.proofs.Common.{◌≡◌, ℕ, ◌+◌, ◌<◌, ◌≤◌, Bool, true, false, cond, ◌&&◌, eqb, ltb, ◌⊎◌, List, [], ◌∷◌, length, Option, sym, refl, ap, ◌∙◌, subst, inl, inr, ⊎_elim, arith}
-use Rattle.std.proofs.lemmas.List.{nil_from_length}
-use Rattle.std.proofs.lemmas.Bool.{cases_eq, eq-eqb, ne_eqb, eqb-true, and_parts, cond-true, cond-false}
-use Rattle.std.specs.List.{slice_get}
+use Rattle.std.proofs.Common.{◌≡◌, ℕ, ◌≤◌, Bool, true, false, cond, ltb, List, [], ◌∷◌, Option, sym, refl, ap, ◌∙◌, subst, ⊎_elim, arith}
+use Rattle.std.proofs.lemmas.Bool.{cases_eq, eq-eqb, ne_eqb, cond-true, cond-false}
 use Rattle.quantity.specs.Measure.{Measure}
-use Rattle.book.specs.Grid.{taken, amounts}
+use Rattle.book.specs.Grid.{amounts}
 use Rattle.refusals.specs.declared.refusal.Refusal.{Refusal}
 use Rattle.day_calls.specs.declared.calls.DayCall.{DayCall}
 use Rattle.day_calls.specs.declared.calls.DayCall.TheVariants.{Open as OpenDay}
@@ -14,10 +12,10 @@ use Rattle.day_calls.specs.declared.calls.NotCalled.{NotCalled}
 use Rattle.day_calls.specs.declared.calls.NotCalled.TheVariants.{NoSuchDay, NoMemory}
 use Rattle.day_calls.specs.declared.desk.Stage.{Stage}
 use Rattle.day_calls.specs.declared.desk.Stage.TheVariants.{Unopened, Announcing, Reconciling, Intraday}
-use Rattle.day_calls.specs.Answers.{Said, numbered, unless, not_in_stage}
+use Rattle.day_calls.specs.Answers.{numbered, unless, not_in_stage}
 use Rattle.day_calls.specs.Days.{DayState, if_unopened, answered, open_refused}
 use Rattle.laws.specs.Volumes.{Event, is_awarded, is_placed}
-use Rattle.laws.specs.Laws.{Entry, of_day, put_day, DayLaw, Laws, Performed, Founded, Opened, NotYet}
+use Rattle.laws.specs.Laws.{Entry, of_day, put_day, DayLaw, Laws}
 use Rattle.laws.proofs.Answers.{tells_awarded, tells_placed, awarded_by, placed_by, unless_award, unless_place}
 use Rattle.laws.proofs.Stands.{stands, StandsAt, idle}
 use Rattle.laws.proofs.Together.{law_stands}
@@ -26,7 +24,7 @@ use Rattle.bureau.specs.declared.calls.Call.{Call}
 use Rattle.bureau.specs.declared.calls.Call.TheVariants.{Open, On}
 use Rattle.bureau.specs.declared.calls.Reply.{Reply}
 use Rattle.bureau.specs.Fresh.{Fresh}
-use Rattle.bureau.specs.Bureaus.{absent_day, BureauState, is_opened, entry_of, Unchanged, OpenedDay, OnDay, Called, Stepped}
+use Rattle.bureau.specs.Bureaus.{absent_day, BureauState, is_opened, entry_of, Unchanged, OpenedDay, Called, Stepped}
 
 module _ {Q R : Type 0} (m : Measure Q R) (tenths : Q → ℕ → ℕ) (directions : ℕ) where
   abbrev Days : Type 0

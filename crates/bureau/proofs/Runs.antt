@@ -1,11 +1,11 @@
 -- One more call of a run.
-use Rattle.std.proofs.Common.{◌≡◌, ℕ, suc, ◌+◌, ◌<◌, ◌≤◌, List, [], ◌∷◌, ◌++◌, length, get_or, take, set, sym, refl, ap, ◌∙◌, subst, arith}
-use Rattle.std.proofs.lemmas.List.{take_more, take_more_set, length-take-le, get_or_read}
+use Rattle.std.proofs.Common.{◌≡◌, ℕ, ◌+◌, ◌<◌, ◌≤◌, List, [], ◌∷◌, ◌++◌, length, get_or, take, set, sym, refl, ap, ◌∙◌, subst, arith}
+use Rattle.std.proofs.lemmas.List.{take_more, take_more_set, length-take-le}
 use Rattle.quantity.specs.Measure.{Measure}
 use Rattle.laws.specs.Laws.{Entry, Laws}
 use Rattle.bureau.specs.declared.calls.Call.{Call}
 use Rattle.bureau.specs.declared.calls.Reply.{Reply}
-use Rattle.bureau.specs.Bureaus.{absent_day, BureauState, entry_of, Stepped}
+use Rattle.bureau.specs.Bureaus.{absent_day, BureauState, Stepped}
 use Rattle.bureau.specs.Runs.{Made, paired, history_of, Ran}
 use Rattle.bureau.proofs.Lawful.{stepped_keeps}
 

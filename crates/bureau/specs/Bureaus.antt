@@ -1,5 +1,5 @@
 -- A bureau: its days side by side, what one call does to it, and what a run of calls does.
-use Rattle.std.specs.Prelude.{◌≡◌, ℕ, ◌+◌, Bool, true, false, cond, ◌⊎◌, List, [], ◌∷◌, map, length, nat_lt, slice_index_or}
+use Rattle.std.specs.Prelude.{◌≡◌, ℕ, ◌+◌, Bool, true, false, cond, ◌⊎◌, List, [], map, length, nat_lt, slice_index_or}
 use Rattle.quantity.specs.Measure.{Measure}
 use Rattle.book.specs.Calls.{everything}
 use Rattle.awards.specs.Sheets.{blank_view}
@@ -8,10 +8,9 @@ use Rattle.day_calls.specs.declared.calls.DayCall.TheVariants.{Open as OpenDay}
 use Rattle.day_calls.specs.declared.calls.Answer.{Answer}
 use Rattle.day_calls.specs.declared.calls.Answer.TheVariants.{Opened, Awarded, Placed, GatePassed, Held, Lacking, Standing, Refused, NotCalled as NotMade}
 use Rattle.day_calls.specs.declared.calls.NotCalled.TheVariants.{NoSuchDay, NoMemory}
-use Rattle.day_calls.specs.declared.desk.Desk.{Desk}
 use Rattle.day_calls.specs.declared.desk.Stage.TheVariants.{Unopened}
 use Rattle.day_calls.specs.Days.{DayState}
-use Rattle.laws.specs.Laws.{Entry, Laws, Performed, put_day}
+use Rattle.laws.specs.Laws.{Entry, Performed, put_day}
 use Rattle.bureau.specs.declared.calls.Call.{Call}
 use Rattle.bureau.specs.declared.calls.Call.TheVariants.{Open, On}
 use Rattle.bureau.specs.declared.calls.Reply.{Reply}

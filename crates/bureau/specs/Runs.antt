@@ -1,5 +1,5 @@
 -- A run: calls that are made one after the other, each with its reply.
-use Rattle.std.specs.Prelude.{◌≡◌, ℕ, List, [], ◌∷◌, ◌++◌, map}
+use Rattle.std.specs.Prelude.{◌≡◌, ℕ, List, [], ◌∷◌, ◌++◌}
 use Rattle.quantity.specs.Measure.{Measure}
 use Rattle.laws.specs.Laws.{Entry, Laws}
 use Rattle.bureau.specs.declared.calls.Call.{Call}
