@@ -1,6 +1,6 @@
 #![tactic(auto)]
 
-pub mod gates;
+pub mod gate_calls;
 pub mod openings;
 pub mod questions;
 pub mod words;

@@ -4,7 +4,7 @@ ghost use Rattle.laws.specs.Laws.{Performed, KeepsLaw};
 use book::interface::Book;
 use day_calls::calls::{Answer, DayCall};
 use day_calls::desk::Desk;
-use day_steps::gates::gate_step;
+use day_steps::gate_calls::gate_step;
 use day_steps::openings::{award_step, open_step};
 use day_steps::questions::{holding_step, missing_step, status_step};
 use day_steps::words::announce_step;

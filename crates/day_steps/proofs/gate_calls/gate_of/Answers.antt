@@ -10,7 +10,7 @@ use Rattle.day.specs.Gating.{gate_refusal}
 use Rattle.day_calls.specs.Answers.{numbered, not_in_stage}
 use Rattle.day_calls.specs.Days.{same_stage, next_stage}
 use Rattle.day_steps.proofs.Refused.{at_gate, says, stays}
-use Rattle.day_steps.proofs.gates.gate_of.Goals as goal
+use Rattle.day_steps.proofs.gate_calls.gate_of.Goals as goal
 
 pub returns-in-Err : goal.returns-in-Err
 returns-in-Err g c =

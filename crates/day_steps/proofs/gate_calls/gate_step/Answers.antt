@@ -7,7 +7,7 @@ use Rattle.day.specs.Announcing.{at_minute}
 use Rattle.day.specs.Gating.{gate_refusal}
 use Rattle.day_calls.specs.Answers.{numbered, unless, not_in_stage}
 use Rattle.day_calls.specs.Days.{before_gate, next_stage}
-use Rattle.day_steps.proofs.gates.gate_step.Goals as goal
+use Rattle.day_steps.proofs.gate_calls.gate_step.Goals as goal
 
 pub returns : goal.returns
 returns g c =
