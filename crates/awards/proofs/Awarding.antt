@@ -3,16 +3,16 @@ use Rattle.std.proofs.Common.{◌≡◌, ℕ, ◌+◌, ◌<◌, ◌≤◌, Bool,
 use Rattle.std.proofs.lemmas.Bool.{leb-false, ltb-true, and_parts, and_from, lt-ltb, le-leb}
 use Rattle.quantity.specs.Measure.{Measure, is_zero}
 use Rattle.book.specs.Grid.{Grid, amounts}
-use Rattle.book.specs.declared.answers.Admission.{Admission}
+use Rattle.book.specs.Admissions.{Admission}
 use Rattle.refusals.specs.First.{first_some, when, unless_refused}
 use Rattle.refusals.specs.declared.refusal.Refusal.{Refusal}
 use Rattle.refusals.specs.declared.refusal.Refusal.TheVariants.{NoSuchProvider, NoSuchSpan, ZeroQuantity, WrongPriceCount, PriceTooLarge, TooManyAwards}
 use Rattle.refusals.proofs.Firsts.{alone, none_both, front_stops, front_passes, front_clear, when_none}
-use Rattle.span_changes.specs.declared.change.Change.TheVariants.{Raising}
-use Rattle.span_changes.specs.Spans.{no_provider, no_span, spanned}
-use Rattle.span_changes.specs.Moves.{span_refusal, span_after, share}
-use Rattle.span_changes.proofs.Alike.{zero_alike}
-use Rattle.span_changes.proofs.Shares.{raise_adds}
+use Rattle.span_moves.specs.declared.change.Change.TheVariants.{Raising}
+use Rattle.span_moves.specs.Spans.{no_provider, no_span, spanned}
+use Rattle.span_moves.specs.Moves.{span_refusal, span_after, share}
+use Rattle.span_moves.proofs.Alike.{zero_alike}
+use Rattle.span_moves.proofs.Shares.{raise_adds}
 use Rattle.awards.specs.Blocks.{first_of_block, last_of_block, count_of_block}
 use Rattle.awards.specs.Sheets.{SheetView, entered, enterable}
 use Rattle.awards.specs.Awards.{overpriced, award_earns, award_conditions, award_refusal, award_after, award_sheet}

@@ -2,13 +2,13 @@
 use Rattle.std.specs.Prelude.{ℕ, ◌+◌, ◌*◌, Bool, false, not, ◌||◌, List, [], ◌∷◌, ◌++◌, length, Option, ◌==◌, nat_le, nat_lt, slice_index}
 use Rattle.quantity.specs.Measure.{Measure, is_zero}
 use Rattle.book.specs.Grid.{Grid, amounts, total}
-use Rattle.book.specs.declared.answers.Admission.{Admission}
+use Rattle.book.specs.Admissions.{Admission}
 use Rattle.refusals.specs.First.{first_some, when, unless_refused}
 use Rattle.refusals.specs.declared.refusal.Refusal.{Refusal}
 use Rattle.refusals.specs.declared.refusal.Refusal.TheVariants.{NoSuchProvider, NoSuchSpan, ZeroQuantity, WrongPriceCount, PriceTooLarge, TooManyAwards}
-use Rattle.span_changes.specs.declared.change.Change.TheVariants.{Raising}
-use Rattle.span_changes.specs.Spans.{spanned}
-use Rattle.span_changes.specs.Moves.{span_refusal}
+use Rattle.span_moves.specs.declared.change.Change.TheVariants.{Raising}
+use Rattle.span_moves.specs.Spans.{spanned}
+use Rattle.span_moves.specs.Moves.{span_refusal}
 use Rattle.awards.specs.Blocks.{first_of_block, last_of_block, count_of_block}
 use Rattle.awards.specs.Sheets.{SheetView, entered}
 

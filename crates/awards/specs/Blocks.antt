@@ -1,6 +1,6 @@
 -- Which quarters the six blocks of a day have: the first block those that the other five, of 16 quarters each, leave.
 use Rattle.std.specs.Prelude.{ℕ, zero, suc, ◌+◌, ◌-◌, ◌*◌, ◌/◌, Bool, cond, ◌&&◌, nat_le, nat_lt}
-use Rattle.span_changes.specs.Spans.{count}
+use Rattle.span_moves.specs.Spans.{count}
 
 -- the quarter at which a block starts
 abbrev pub starts : ℕ → ℕ → ℕ

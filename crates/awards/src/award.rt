@@ -3,7 +3,7 @@ ghost use Rattle.std.specs.Result.{result_err};
 ghost use Rattle.book.specs.Grid.{amounts};
 ghost use Rattle.refusals.specs.First.{first_some};
 ghost use Rattle.refusals.specs.Numbers.{answer_number};
-ghost use Rattle.span_changes.specs.Spans.{Alike};
+ghost use Rattle.span_moves.specs.Spans.{Alike};
 ghost use Rattle.awards.specs.Sheets.{view};
 ghost use Rattle.awards.specs.Awards.{award_conditions, award_refusal, award_after, award_sheet};
 
@@ -15,7 +15,7 @@ use book::interface::Book;
 use quantity::interface::Quantity;
 use quantity::reserve::ReserveQuantity;
 use refusals::refusal::Refusal;
-use span_changes::spans::raise_span;
+use span_moves::spans::raise_span;
 
 // The refusals of an award that need no book.
 fn check_award<Q: ReserveQuantity>(

@@ -6,8 +6,7 @@ use Rattle.quantity.specs.Measure.{Measure, Sum}
 use Rattle.book.specs.Grid.{Grid, in_range, put, amounts}
 use Rattle.book.specs.Calls.{held_at, barred, full, crowded, unless, everything, changed, change_refusal, raise_refusal, lower_refusal, raised, lowered}
 use Rattle.book.specs.declared.answers.Cause.{Cause}
-use Rattle.book.specs.declared.answers.Admission.{Admission}
-use Rattle.book.specs.declared.answers.Admission.TheVariants.{No}
+use Rattle.book.specs.Admissions.{Admission}
 use Rattle.book.specs.declared.answers.BookRefusal.{BookRefusal}
 use Rattle.book.specs.declared.answers.BookRefusal.TheVariants.{OutsideRange, NoRemainder, SumDoesNotFit, NotAdmitted}
 
@@ -84,7 +83,7 @@ module _ {Q R : Type 0} (m : Measure Q R) (held : Grid Q) (places : ℕ) (p t : 
         raise_by : (admission : ℕ → ℕ → Q → Admission) → raise_refusal m held places admission p t q ≡ by_admission (admission p t sum)
         raise_by admission = raise_inside admission inside ∙ ap (change_refusal m held places SumDoesNotFit (admission p t) p t) is
 
-        pub raise_barred : (admission : ℕ → ℕ → Q → Admission) (cause : Cause) → admission p t sum ≡ No cause → raise_refusal m held places admission p t q ≡ Some (NotAdmitted cause)
+        pub raise_barred : (admission : ℕ → ℕ → Q → Admission) (cause : Cause) → admission p t sum ≡ Some cause → raise_refusal m held places admission p t q ≡ Some (NotAdmitted cause)
         raise_barred admission cause e = raise_by admission ∙ ap by_admission e
 
         -- two books that say the same of the sum answer alike

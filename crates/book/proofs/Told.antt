@@ -1,19 +1,18 @@
 -- What the number of an admission tells of it.
-use Rattle.std.proofs.Common.{◌≡◌, ℕ, cond, eqb, List, [], ◌∷◌, get_or, sym, refl, ap, ◌∙◌, arith}
+use Rattle.std.proofs.Common.{◌≡◌, ℕ, cond, eqb, List, [], ◌∷◌, get_or, sym, refl, ap, ◌∙◌, arith, Some, None}
 use Rattle.quantity.specs.declared.direction.Direction.TheVariants.{Up, Down}
 use Rattle.book.specs.Numbers.{cause_number, admission_number}
 use Rattle.book.specs.declared.answers.Cause.{Cause}
 use Rattle.book.specs.declared.answers.Cause.TheVariants.{Limit}
-use Rattle.book.specs.declared.answers.Admission.{Admission}
-use Rattle.book.specs.declared.answers.Admission.TheVariants.{Yes, No}
+use Rattle.book.specs.Admissions.{Admission}
 
-pub admission_yes : (a : Admission) → 0 ∷ [] ≡ admission_number a → a ≡ Yes
-admission_yes Yes e = refl
-admission_yes (No cause) e = absurd (let z : ◌≡◌ {A = ℕ} 0 1 = cc in omega arith)
+pub admission_yes : (a : Admission) → 0 ∷ [] ≡ admission_number a → a ≡ None
+admission_yes None e = refl
+admission_yes (Some cause) e = absurd (let z : ◌≡◌ {A = ℕ} 0 1 = cc in omega arith)
 
-pub admission_no : (a : Admission) (cause : Cause) → 1 ∷ cause_number cause ≡ admission_number a → (c : Cause) × (a ≡ No c) × (cause_number cause ≡ cause_number c)
-admission_no Yes cause e = absurd (let z : ◌≡◌ {A = ℕ} 0 1 = cc in omega arith)
-admission_no (No c) cause e = (c, refl, cc)
+pub admission_no : (a : Admission) (cause : Cause) → 1 ∷ cause_number cause ≡ admission_number a → (c : Cause) × (a ≡ Some c) × (cause_number cause ≡ cause_number c)
+admission_no None cause e = absurd (let z : ◌≡◌ {A = ℕ} 0 1 = cc in omega arith)
+admission_no (Some c) cause e = (c, refl, cc)
 
 -- the cause that a number with its values tells
 abbrev pub cause_of : List ℕ → Cause
@@ -27,7 +26,7 @@ pub cause_once : (c d : Cause) → cause_number c ≡ cause_number d → c ≡ d
 cause_once c d e = sym (cause_again c) ∙ (ap cause_of e ∙ cause_again d)
 
 pub admission_once : (a b : Admission) → admission_number a ≡ admission_number b → a ≡ b
-admission_once Yes Yes e = refl
-admission_once Yes (No d) e = absurd (let z : ◌≡◌ {A = ℕ} 0 1 = cc in omega arith)
-admission_once (No c) Yes e = absurd (let z : ◌≡◌ {A = ℕ} 0 1 = cc in omega arith)
-admission_once (No c) (No d) e = ap No (cause_once c d (cc))
+admission_once None None e = refl
+admission_once None (Some d) e = absurd (let z : ◌≡◌ {A = ℕ} 0 1 = cc in omega arith)
+admission_once (Some c) None e = absurd (let z : ◌≡◌ {A = ℕ} 0 1 = cc in omega arith)
+admission_once (Some c) (Some d) e = ap Some (cause_once c d (cc))

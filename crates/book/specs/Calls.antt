@@ -3,8 +3,7 @@ use Rattle.std.specs.Prelude.{ℕ, Bool, true, false, cond, not, ◌&&◌, Some,
 use Rattle.std.specs.Option.{unwrap_or}
 use Rattle.quantity.specs.Measure.{Measure, is_zero}
 use Rattle.book.specs.Grid.{Grid, in_range, put, amounts, taken}
-use Rattle.book.specs.declared.answers.Admission.{Admission}
-use Rattle.book.specs.declared.answers.Admission.TheVariants.{Yes, No}
+use Rattle.book.specs.Admissions.{Admission}
 use Rattle.book.specs.declared.answers.BookRefusal.{BookRefusal}
 use Rattle.book.specs.declared.answers.BookRefusal.TheVariants.{OutsideRange, NoRemainder, SumDoesNotFit, NotAdmitted, NoFreePlace}
 
@@ -14,12 +13,12 @@ held_at m held p t = cond (in_range p t) (held p t) m.nothing
 
 -- what is told of a quantity: it is admitted outside the range
 abbrev pub admitted_at : {Q : Type 0} → (ℕ → ℕ → Q → Admission) → ℕ → ℕ → Q → Admission
-admitted_at admission p t q = cond (in_range p t) (admission p t q) Yes
+admitted_at admission p t q = cond (in_range p t) (admission p t q) None
 
 -- the refusal of what is not admitted, or the next one
 abbrev pub barred : Admission → Option BookRefusal → Option BookRefusal
-barred Yes next = next
-barred (No cause) next = Some (NotAdmitted cause)
+barred None next = next
+barred (Some cause) next = Some (NotAdmitted cause)
 
 -- the new value where nothing is refused, else the old one
 abbrev pub unless : {A : Type 0} → Option BookRefusal → A → A → A
@@ -28,7 +27,7 @@ unless (Some refusal) new old = old
 
 -- a book that admits every quantity
 abbrev pub everything : {Q : Type 0} → ℕ → ℕ → Q → Admission
-everything p t q = Yes
+everything p t q = None
 
 -- the amounts after a change of one holding to what the quantity's call answered, unless it is refused
 abbrev pub changed : {Q R : Type 0} (m : Measure Q R) → Grid Q → ℕ → ℕ → Option BookRefusal → Option Q → Grid m.Amount

@@ -1,3 +1,4 @@
+pub mod Admissions
 pub mod Numbers
 pub mod Grid
 pub mod Calls

@@ -3,8 +3,7 @@ use Rattle.std.specs.Prelude.{ℕ, List, [], ◌∷◌, Some, None, Option}
 use Rattle.quantity.specs.Directions.{number}
 use Rattle.book.specs.declared.answers.Cause.{Cause}
 use Rattle.book.specs.declared.answers.Cause.TheVariants.{Limit}
-use Rattle.book.specs.declared.answers.Admission.{Admission}
-use Rattle.book.specs.declared.answers.Admission.TheVariants.{Yes, No}
+use Rattle.book.specs.Admissions.{Admission}
 use Rattle.book.specs.declared.answers.BookRefusal.{BookRefusal}
 use Rattle.book.specs.declared.answers.BookRefusal.TheVariants.{OutsideRange, NoRemainder, SumDoesNotFit, NotAdmitted, NoFreePlace}
 
@@ -12,8 +11,8 @@ abbrev pub cause_number : Cause → List ℕ
 cause_number (Limit layer direction) = 0 ∷ (layer ∷ (number direction ∷ []))
 
 abbrev pub admission_number : Admission → List ℕ
-admission_number Yes = 0 ∷ []
-admission_number (No cause) = 1 ∷ cause_number cause
+admission_number None = 0 ∷ []
+admission_number (Some cause) = 1 ∷ cause_number cause
 
 abbrev pub refusal_number : BookRefusal → List ℕ
 refusal_number OutsideRange = 5 ∷ []

@@ -1,4 +1,5 @@
-ghost use Rattle.std.specs.Prelude.{Some};
+ghost use Rattle.std.specs.Prelude.{◌≡◌, Some};
+ghost use Rattle.book.specs.declared.answers.BookRefusal.TheVariants.{NotAdmitted};
 ghost use Rattle.book.specs.Texts.{cause_text};
 
 use quantity::direction::Direction;
@@ -11,13 +12,6 @@ pub enum Cause {
     Limit { layer: u8, direction: Direction },
 }
 
-/// Whether a book admits a quantity as the holding of a provider in a quarter.
-#[derive(Clone, Copy, PartialEq, Eq, Debug)]
-pub enum Admission {
-    Yes,
-    No(Cause),
-}
-
 /// Why a book does not change a holding.
 #[derive(Clone, Copy, PartialEq, Eq, Debug)]
 pub enum BookRefusal {
@@ -26,6 +20,14 @@ pub enum BookRefusal {
     SumDoesNotFit,
     NotAdmitted(Cause),
     NoFreePlace,
+}
+
+impl From<Cause> for BookRefusal {
+    ghost from_gives = { λ cause refusal. refusal ≡ NotAdmitted cause };
+
+    fn from(cause: Cause) -> BookRefusal {
+        BookRefusal::NotAdmitted(cause)
+    }
 }
 
 impl fmt::Display for Cause {

@@ -1,11 +1,11 @@
 ghost use Rattle.std.specs.Prelude.{◌≡◌, ℕ, ◌+◌};
 ghost use Rattle.std.specs.Result.{result_err};
-ghost use Rattle.book.specs.declared.answers.Admission.{Admission};
+ghost use Rattle.book.specs.Admissions.{Admission};
 ghost use Rattle.book.specs.Numbers.{admission_number, answer_number};
 ghost use Rattle.book.specs.Grid.{amounts, taken};
 ghost use Rattle.book.specs.Calls.{held_at, admitted_at, raise_refusal, lower_refusal, raised, lowered};
 
-use crate::answers::{Admission, BookRefusal};
+use crate::answers::{BookRefusal, Cause};
 use quantity::interface::Quantity;
 
 /// A book is told by its holdings (of each provider and quarter), the number of its places and what it admits,
@@ -29,10 +29,10 @@ pub trait Book {
     fn free(&self) -> usize
         ensures { result + taken Self.Q.Quantity.measure (holdings self.now) ≡ places self.now };
 
-    /// Whether the quantity is admitted as this holding, yes outside the range.
+    /// Whether the quantity is admitted as this holding, yes outside the range, or the cause why not.
     /// Values that stand for the same amount are answered alike.
-    fn admits(&self, provider: u8, quarter: u8, quantity: Self::Q) -> Admission
-        ensures value { admission_number result ≡ admission_number (admitted_at (admission self.now) provider quarter quantity) }
+    fn admits(&self, provider: u8, quarter: u8, quantity: Self::Q) -> Result<(), Cause>
+        ensures value { admission_number (result_err result) ≡ admission_number (admitted_at (admission self.now) provider quarter quantity) }
         ensures alike { (other : Self.Q) → Self.Q.Quantity.measure.amount other ≡ Self.Q.Quantity.measure.amount quantity → admission self.now provider quarter other ≡ admission self.now provider quarter quantity };
 
     fn layer(&self) -> u8

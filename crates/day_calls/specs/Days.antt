@@ -4,7 +4,7 @@ use Rattle.std.specs.List.{slice_get}
 use Rattle.quantity.specs.Measure.{Measure}
 use Rattle.book.specs.Grid.{Grid, amounts}
 use Rattle.book.specs.Calls.{held_at}
-use Rattle.book.specs.declared.answers.Admission.{Admission}
+use Rattle.book.specs.Admissions.{Admission}
 use Rattle.refusals.specs.declared.refusal.Refusal.{Refusal}
 use Rattle.refusals.specs.First.{unless_refused}
 use Rattle.requests.specs.declared.request.Request.{Request}

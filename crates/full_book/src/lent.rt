@@ -6,7 +6,7 @@ ghost use Rattle.book.specs.Calls.{everything, raise_refusal, lower_refusal, rai
 ghost use Rattle.full_book.specs.Rows.{rows_held, rows_places, blanked};
 
 use crate::rows;
-use book::answers::{Admission, BookRefusal};
+use book::answers::{BookRefusal, Cause};
 use book::interface::Book;
 use quantity::interface::Quantity;
 
@@ -56,8 +56,8 @@ impl<'a, K: Quantity> Book for FullBook<'a, K> {
         rows::free::<K>(self.rows)
     }
 
-    fn admits(&self, provider: u8, quarter: u8, quantity: K) -> Admission {
-        Admission::Yes
+    fn admits(&self, provider: u8, quarter: u8, quantity: K) -> Result<(), Cause> {
+        Ok(())
     }
 
     fn layer(&self) -> u8 {

@@ -4,7 +4,7 @@ ghost use Rattle.book.specs.Calls.{everything};
 ghost use Rattle.full_book.specs.Rows.{rows_held, rows_places};
 
 use crate::rows;
-use book::answers::{Admission, BookRefusal};
+use book::answers::{BookRefusal, Cause};
 use book::interface::Book;
 use quantity::interface::Quantity;
 use std::alloc::{AllocError, Global};
@@ -46,8 +46,8 @@ impl<K: Quantity> Book for StoredFullBook<K> {
         rows::free::<K>(self.rows.as_slice())
     }
 
-    fn admits(&self, provider: u8, quarter: u8, quantity: K) -> Admission {
-        Admission::Yes
+    fn admits(&self, provider: u8, quarter: u8, quantity: K) -> Result<(), Cause> {
+        Ok(())
     }
 
     fn layer(&self) -> u8 {

@@ -3,13 +3,13 @@ use Rattle.std.proofs.Common.{◌≡◌, ℕ, Bool, true, false, cond, ◌&&◌,
 use mathlib.Core.Path.{fun_ext}
 use Rattle.quantity.specs.Measure.{Measure}
 use Rattle.book.specs.Grid.{Grid, amounts}
-use Rattle.span_changes.specs.declared.change.Change.TheVariants.{Lowering, Raising}
+use Rattle.span_moves.specs.declared.change.Change.TheVariants.{Lowering, Raising}
 use Rattle.refusals.specs.declared.refusal.Refusal.{Refusal}
 use Rattle.refusals.specs.First.{unless_refused}
-use Rattle.span_changes.specs.Moves.{moved_holdings, moved}
-use Rattle.span_changes.proofs.Shares.{moved_amounts}
-use Rattle.span_changes.specs.Spans.{becomes}
-use Rattle.span_changes.proofs.Alike.{became_row}
+use Rattle.span_moves.specs.Moves.{moved_holdings, moved}
+use Rattle.span_moves.proofs.Shares.{moved_amounts}
+use Rattle.span_moves.specs.Spans.{becomes}
+use Rattle.span_moves.proofs.Alike.{became_row}
 
 module _ {Q R : Type 0} (m : Measure Q R) (held other : Grid Q) (q : Q) (e : amounts m other ≡ amounts m held) where
   rows : (p t : ℕ) → m.amount (other p t) ≡ m.amount (held p t)

@@ -3,10 +3,10 @@ use Rattle.std.specs.Prelude.{◌≡◌, ℕ, ◌+◌, Bool, true, false, cond, 
 use Rattle.std.specs.List.{slice_get}
 use Rattle.quantity.specs.Measure.{Measure}
 use Rattle.book.specs.Grid.{Grid}
-use Rattle.book.specs.declared.answers.Admission.{Admission}
+use Rattle.book.specs.Admissions.{Admission}
 use Rattle.refusals.specs.declared.refusal.Refusal.{Refusal}
 use Rattle.refusals.specs.First.{unless_refused}
-use Rattle.span_changes.specs.Moves.{move_refusal, moved_holdings}
+use Rattle.span_moves.specs.Moves.{move_refusal, moved_holdings}
 use Rattle.requests.specs.declared.request.Status.{Status}
 use Rattle.requests.specs.declared.request.Status.TheVariants.{WaitingForCounterpart, BalanceOk, BalanceError, Confirmed, Rejected, Waiting, Accepted, Declined, Lapsed}
 use Rattle.requests.specs.declared.request.Request.{Request}

@@ -11,7 +11,7 @@ use quantity::interface::Quantity;
 use record_list::interface::Records;
 use refusals::refusal::Refusal;
 use requests::request::{Request, Status};
-use span_changes::spans::move_span;
+use span_moves::spans::move_span;
 
 // The quantity that passes: what the giver announced last.
 fn passing_quantity<Q: Quantity>(giving: Option<Q::Row>) -> Q

@@ -3,15 +3,15 @@ use Rattle.std.proofs.Common.{◌≡◌, ℕ, ◌+◌, ◌<◌, Bool, true, fals
 use Rattle.std.proofs.lemmas.Bool.{eqb-true, or_cases}
 use Rattle.quantity.specs.Measure.{Measure}
 use Rattle.book.specs.Grid.{Grid, amounts}
-use Rattle.book.specs.declared.answers.Admission.{Admission}
+use Rattle.book.specs.Admissions.{Admission}
 use Rattle.refusals.specs.declared.refusal.Refusal.{Refusal}
 use Rattle.refusals.specs.First.{unless_refused}
 use Rattle.refusals.proofs.Firsts.{alone}
 use Rattle.requests.specs.declared.request.Request.{Request}
-use Rattle.span_changes.specs.declared.change.Change.TheVariants.{Raising}
-use Rattle.span_changes.specs.Spans.{spanned}
-use Rattle.span_changes.specs.Moves.{span_refusal}
-use Rattle.span_changes.proofs.Shares.{raise_adds}
+use Rattle.span_moves.specs.declared.change.Change.TheVariants.{Raising}
+use Rattle.span_moves.specs.Spans.{spanned}
+use Rattle.span_moves.specs.Moves.{span_refusal}
+use Rattle.span_moves.proofs.Shares.{raise_adds}
 use Rattle.awards.specs.Blocks.{first_of_block, last_of_block, count_of_block, in_block}
 use Rattle.awards.specs.Sheets.{SheetView, entered}
 use Rattle.awards.specs.Awards.{award_earns, award_conditions, award_refusal, award_after, award_sheet}

@@ -1,7 +1,7 @@
 -- What the calls of a day awarded, announced and earned, counted over its history: the calls with their answers, the newest first.
 use Rattle.std.specs.Prelude.{ℕ, ◌+◌, Bool, true, false, cond, ◌&&◌, List, [], ◌∷◌, Some, None, Option, ◌==◌}
 use Rattle.quantity.specs.Measure.{Measure}
-use Rattle.span_changes.specs.Moves.{share}
+use Rattle.span_moves.specs.Moves.{share}
 use Rattle.awards.specs.Blocks.{count_of_block, in_block}
 use Rattle.awards.specs.Awards.{award_earns}
 use Rattle.requests.specs.declared.request.Status.{Status}

@@ -1,13 +1,12 @@
 -- What a limit layer admits.
-use Rattle.std.proofs.Common.{◌≡◌, ℕ, ◌+◌, true, [], ◌∷◌, sym, refl, ap, ◌∙◌, arith}
+use Rattle.std.proofs.Common.{◌≡◌, ℕ, ◌+◌, true, [], ◌∷◌, sym, refl, ap, ◌∙◌, arith, Some, None}
 use Rattle.std.proofs.lemmas.Bool.{cond-true}
 use Rattle.quantity.specs.Measure.{Measure}
 use Rattle.book.specs.Grid.{in_range}
 use Rattle.book.specs.Numbers.{cause_number, admission_number}
 use Rattle.book.specs.Calls.{admitted_at}
 use Rattle.book.specs.declared.answers.Cause.{Cause}
-use Rattle.book.specs.declared.answers.Admission.{Admission}
-use Rattle.book.specs.declared.answers.Admission.TheVariants.{Yes, No}
+use Rattle.book.specs.Admissions.{Admission}
 use Rattle.book.proofs.Told.{admission_yes, admission_no}
 use Rattle.limit_layer.specs.declared.table.LimitTable.{LimitTable}
 use Rattle.limit_layer.specs.Limits.{limit_at, within, over, limited}
@@ -28,12 +27,12 @@ module _ {Q : Type 0} (table : LimitTable) (layer : ℕ) (below : ℕ → ℕ �
   limited_alike q other e h = ap (λ a. over a (own (tenths other 0) (tenths other 1))) e ∙ (ap (λ n. over (below p t q) (own n (tenths other 1))) (h 0) ∙ ap (λ n. over (below p t q) (own (tenths q 0) n)) (h 1))
 
   over_no : (a : Admission) (cause : Cause) (b : Admission) → 1 ∷ cause_number cause ≡ admission_number a → 1 ∷ cause_number cause ≡ admission_number (over a b)
-  over_no Yes cause b e = absurd (let z : ◌≡◌ {A = ℕ} 0 1 = cc in omega arith)
-  over_no (No c) cause b e = e
+  over_no None cause b e = absurd (let z : ◌≡◌ {A = ℕ} 0 1 = cc in omega arith)
+  over_no (Some c) cause b e = e
 
   module _ (inside : in_range p t ≡ true) (q : Q) where
     in_full : (adm : ℕ → ℕ → Q → Admission) → admitted_at adm p t q ≡ adm p t q
-    in_full adm = cond-true (in_range p t) (adm p t q) Yes inside
+    in_full adm = cond-true (in_range p t) (adm p t q) None inside
 
     -- what the book below does not admit the layer does not either, for the same cause
     pub limited_no : (cause : Cause) → 1 ∷ cause_number cause ≡ admission_number (admitted_at below p t q) → 1 ∷ cause_number cause ≡ admission_number (admitted_at (limited table layer below tenths) p t q)
@@ -52,9 +51,9 @@ module _ {Q : Type 0} (table : LimitTable) (layer : ℕ) (below : ℕ → ℕ �
         ∙ (sym (ap (λ x. over x (own (tenths q 0) (tenths q 1))) (admission_yes (below p t q) (e ∙ ap admission_number (in_full below)))) ∙ sym (in_full (limited table layer below tenths)))))))
 
     -- what the layer admits the book below admits
-    over_yes : (a b : Admission) → over a b ≡ Yes → a ≡ Yes
-    over_yes Yes b e = refl
-    over_yes (No c) b e = e
+    over_yes : (a b : Admission) → over a b ≡ None → a ≡ None
+    over_yes None b e = refl
+    over_yes (Some c) b e = e
 
     pub admitted_below : 0 ∷ [] ≡ admission_number (admitted_at (limited table layer below tenths) p t q) → limited table layer below tenths p t q ≡ below p t q
     unfolding limited
@@ -62,5 +61,5 @@ module _ {Q : Type 0} (table : LimitTable) (layer : ℕ) (below : ℕ → ℕ �
         let yes = admission_yes (limited table layer below tenths p t q) (e ∙ ap admission_number (in_full (limited table layer below tenths))) in
         yes ∙ sym (over_yes (below p t q) (own (tenths q 0) (tenths q 1)) yes)
 
-    pub not_admitted : (cause : Cause) → 1 ∷ cause_number cause ≡ admission_number (admitted_at (limited table layer below tenths) p t q) → (c : Cause) × (limited table layer below tenths p t q ≡ No c) × (cause_number cause ≡ cause_number c)
+    pub not_admitted : (cause : Cause) → 1 ∷ cause_number cause ≡ admission_number (admitted_at (limited table layer below tenths) p t q) → (c : Cause) × (limited table layer below tenths p t q ≡ Some c) × (cause_number cause ≡ cause_number c)
     not_admitted cause e = admission_no (limited table layer below tenths p t q) cause (e ∙ ap admission_number (in_full (limited table layer below tenths)))

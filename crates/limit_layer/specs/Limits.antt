@@ -1,8 +1,7 @@
 -- Limits of providers, and what they admit.
 use Rattle.std.specs.Prelude.{ℕ, zero, suc, ◌+◌, min, cond, ◌&&◌, List, [], ◌∷◌, Some, None, Option, ◌==◌, nat_le, nat_lt, slice_index}
 use Rattle.quantity.specs.declared.direction.Direction.TheVariants.{Up, Down}
-use Rattle.book.specs.declared.answers.Admission.{Admission}
-use Rattle.book.specs.declared.answers.Admission.TheVariants.{Yes, No}
+use Rattle.book.specs.Admissions.{Admission}
 use Rattle.book.specs.declared.answers.Cause.TheVariants.{Limit}
 use Rattle.limit_layer.specs.declared.table.LimitTable.{LimitTable}
 use Rattle.limit_layer.specs.declared.table.LimitRefusal.{LimitRefusal}
@@ -28,12 +27,12 @@ after_set limits provider direction tenths p d = cond (nat_lt provider 32 && (p 
 
 -- whether tenths up and down are within limits: if not, up before down
 abbrev pub within : (layer upLimit downLimit up down : ℕ) → Admission
-within layer upLimit downLimit up down = cond (nat_le up upLimit) (cond (nat_le down downLimit) Yes (No (Limit layer Down))) (No (Limit layer Up))
+within layer upLimit downLimit up down = cond (nat_le up upLimit) (cond (nat_le down downLimit) None (Some (Limit layer Down))) (Some (Limit layer Up))
 
 -- what the book below does not admit, and then what the layer does not
 abbrev pub over : Admission → Admission → Admission
-over Yes own = own
-over (No cause) own = No cause
+over None own = own
+over (Some cause) own = Some cause
 
 -- one more than the layer below, at most 255
 abbrev pub next_layer : ℕ → ℕ

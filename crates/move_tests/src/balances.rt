@@ -2,7 +2,7 @@ use crate::cents::Cents;
 use book::interface::Book;
 use full_book::lent::FullBook;
 use quantity::interface::Quantity;
-use span_moves::refusal::SpanRefusal;
+use refusals::refusal::Refusal;
 use span_moves::spans::{lower_span, move_span, raise_span};
 use sparse_book::lent::SparseBook;
 use sparse_book::record::Record;
@@ -51,13 +51,13 @@ fn a_debt_takes_a_place(rt: HostRuntime) {
     let mut book: SparseBook<Cents> = SparseBook::blank(&mut slots);
     assert_eq!(rt;
         move_span(&mut book, 0, 1, 0, 1, cents(5)),
-        Err(SpanRefusal::NoFreePlace)
+        Err(Refusal::NoFreePlace)
     );
     balances(&rt, &book, 0, 0);
     assert_eq!(rt; book.free(), 3);
     assert_eq!(rt;
         lower_span(&mut book, 2, 0, 3, cents(1)),
-        Err(SpanRefusal::NoFreePlace)
+        Err(Refusal::NoFreePlace)
     );
     assert_eq!(rt; lower_span(&mut book, 2, 0, 2, cents(1)), Ok(()));
     assert_eq!(rt; book.holding(2, 2).count(), -1);
@@ -77,14 +77,14 @@ fn only_the_bounds_refuse(rt: HostRuntime) {
     balances(&rt, &book, -1000000, 1000000);
     assert_eq!(rt;
         move_span(&mut book, 0, 2, 0, 1, cents(1)),
-        Err(SpanRefusal::NoRemainder {
+        Err(Refusal::NoRemainder {
             provider: 0,
             quarter: 0,
         })
     );
     assert_eq!(rt;
         move_span(&mut book, 2, 1, 0, 1, cents(1)),
-        Err(SpanRefusal::SumDoesNotFit {
+        Err(Refusal::SumDoesNotFit {
             provider: 1,
             quarter: 0,
         })

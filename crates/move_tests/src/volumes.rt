@@ -6,7 +6,7 @@ use limit_layer::table::LimitTable;
 use quantity::direction::Direction;
 use quantity::fcr::Volume;
 use quantity::interface::Quantity;
-use span_moves::refusal::SpanRefusal;
+use refusals::refusal::Refusal;
 use span_moves::spans::{lower_span, move_span, raise_span};
 use sparse_book::lent::SparseBook;
 use sparse_book::record::Record;
@@ -42,7 +42,7 @@ fn sixteen_full_records_move_whole(rt: HostRuntime) {
     assert_eq!(rt; book.free(), 0);
     assert_eq!(rt;
         move_span(&mut book, 0, 1, 12, 27, tenths(50)),
-        Err(SpanRefusal::NoFreePlace)
+        Err(Refusal::NoFreePlace)
     );
     holds(&rt, &book, 0, 12, 27, 100);
     holds(&rt, &book, 1, 12, 27, 0);
@@ -59,14 +59,14 @@ fn last_quarter_lacks<B: Book<Q = Volume>>(rt: &impl Abort, book: &mut B) {
     assert_eq!(rt; raise_span(book, 6, 0, 3, tenths(7)), Ok(()));
     assert_eq!(rt;
         move_span(book, 5, 6, 0, 3, tenths(50)),
-        Err(SpanRefusal::NoRemainder {
+        Err(Refusal::NoRemainder {
             provider: 5,
             quarter: 3,
         })
     );
     assert_eq!(rt;
         lower_span(book, 5, 0, 3, tenths(50)),
-        Err(SpanRefusal::NoRemainder {
+        Err(Refusal::NoRemainder {
             provider: 5,
             quarter: 3,
         })
@@ -101,7 +101,7 @@ fn fit_before_limit(rt: HostRuntime) {
     let mut book = LimitLayer::new(below, limits);
     assert_eq!(rt;
         move_span(&mut book, 2, 3, 0, 4, tenths(2000)),
-        Err(SpanRefusal::SumDoesNotFit {
+        Err(Refusal::SumDoesNotFit {
             provider: 3,
             quarter: 4,
         })
@@ -112,7 +112,7 @@ fn fit_before_limit(rt: HostRuntime) {
     };
     assert_eq!(rt;
         move_span(&mut book, 2, 3, 1, 3, tenths(2000)),
-        Err(SpanRefusal::NotAdmitted {
+        Err(Refusal::NotAdmitted {
             provider: 3,
             quarter: 1,
             cause,
@@ -120,7 +120,7 @@ fn fit_before_limit(rt: HostRuntime) {
     );
     assert_eq!(rt;
         move_span(&mut book, 2, 3, 0, 4, tenths(4000)),
-        Err(SpanRefusal::NoRemainder {
+        Err(Refusal::NoRemainder {
             provider: 2,
             quarter: 0,
         })
@@ -140,42 +140,42 @@ fn order_of_the_others(rt: HostRuntime) {
     let mut book: FullBook<Volume> = FullBook::blank(&mut rows);
     assert_eq!(rt;
         move_span(&mut book, 32, 32, 5, 4, tenths(1)),
-        Err(SpanRefusal::NoSuchProvider)
+        Err(Refusal::NoSuchProvider)
     );
     assert_eq!(rt;
         move_span(&mut book, 0, 32, 0, 100, tenths(1)),
-        Err(SpanRefusal::NoSuchProvider)
+        Err(Refusal::NoSuchProvider)
     );
     assert_eq!(rt;
         move_span(&mut book, 1, 1, 5, 4, tenths(1)),
-        Err(SpanRefusal::NoSuchSpan)
+        Err(Refusal::NoSuchSpan)
     );
     assert_eq!(rt;
         move_span(&mut book, 1, 1, 0, 100, tenths(1)),
-        Err(SpanRefusal::NoSuchSpan)
+        Err(Refusal::NoSuchSpan)
     );
     assert_eq!(rt;
         move_span(&mut book, 1, 1, 0, 99, tenths(1)),
-        Err(SpanRefusal::SameProvider)
+        Err(Refusal::SameProvider)
     );
     assert_eq!(rt;
         move_span(&mut book, 1, 2, 0, 99, tenths(1)),
-        Err(SpanRefusal::NoRemainder {
+        Err(Refusal::NoRemainder {
             provider: 1,
             quarter: 0,
         })
     );
     assert_eq!(rt;
         raise_span(&mut book, 32, 5, 4, tenths(1)),
-        Err(SpanRefusal::NoSuchProvider)
+        Err(Refusal::NoSuchProvider)
     );
     assert_eq!(rt;
         raise_span(&mut book, 31, 5, 4, tenths(1)),
-        Err(SpanRefusal::NoSuchSpan)
+        Err(Refusal::NoSuchSpan)
     );
     assert_eq!(rt;
         raise_span(&mut book, 31, 0, 100, tenths(1)),
-        Err(SpanRefusal::NoSuchSpan)
+        Err(Refusal::NoSuchSpan)
     );
     assert_eq!(rt; raise_span(&mut book, 31, 0, 99, tenths(1)), Ok(()));
     holds(&rt, &book, 31, 0, 99, 1);
@@ -190,7 +190,7 @@ fn a_freed_place_serves_later(rt: HostRuntime) {
     assert_eq!(rt; raise_span(&mut book, 0, 1, 1, tenths(9)), Ok(()));
     assert_eq!(rt;
         move_span(&mut book, 0, 1, 0, 1, tenths(5)),
-        Err(SpanRefusal::NoFreePlace)
+        Err(Refusal::NoFreePlace)
     );
     assert_eq!(rt; book.holding(0, 0).up(), 5);
     assert_eq!(rt; book.holding(0, 1).up(), 9);

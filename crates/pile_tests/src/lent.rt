@@ -1,4 +1,4 @@
-use book::answers::{Admission, BookRefusal, Cause};
+use book::answers::{BookRefusal, Cause};
 use book::interface::Book;
 use full_book::lent::FullBook;
 use limit_layer::layer::LimitLayer;
@@ -91,14 +91,14 @@ fn limits_hold<B: Book<Q = Volume> + Drop>(rt: &impl Abort, below: B) -> Result<
     assert!(rt; limits.set(32, Direction::Up, 100).is_err());
     let mut book = LimitLayer::new(below, limits);
     assert_eq!(rt; book.layer(), 1);
-    assert_eq!(rt; book.admits(3, 7, tenths(100)), Admission::Yes);
+    assert_eq!(rt; book.admits(3, 7, tenths(100)), Ok(()));
     let above = Cause::Limit {
         layer: 1,
         direction: Direction::Up,
     };
-    assert_eq!(rt; book.admits(3, 7, tenths(101)), Admission::No(above));
-    assert_eq!(rt; book.admits(4, 7, tenths(1)), Admission::No(above));
-    assert_eq!(rt; book.admits(40, 7, tenths(1)), Admission::Yes);
+    assert_eq!(rt; book.admits(3, 7, tenths(101)), Err(above));
+    assert_eq!(rt; book.admits(4, 7, tenths(1)), Err(above));
+    assert_eq!(rt; book.admits(40, 7, tenths(1)), Ok(()));
     assert!(rt; book.raise(3, 7, tenths(60)).is_ok());
     assert!(rt; book.raise(3, 7, tenths(40)).is_ok());
     assert_eq!(rt;

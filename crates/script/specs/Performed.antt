@@ -4,10 +4,10 @@ use Rattle.quantity.specs.Measure.{Measure}
 use Rattle.book.specs.Grid.{Grid, amounts, taken}
 use Rattle.book.specs.Numbers.{refusal_number}
 use Rattle.book.specs.Calls.{held_at, raise_refusal, lower_refusal, raised, lowered}
-use Rattle.book.specs.declared.answers.Admission.{Admission}
+use Rattle.book.specs.Admissions.{Admission}
 use Rattle.book.specs.declared.answers.BookRefusal.{BookRefusal}
-use Rattle.span_moves.specs.declared.refusal.SpanRefusal.{SpanRefusal}
-use Rattle.span_moves.specs.Numbers.{span_number}
+use Rattle.refusals.specs.declared.refusal.Refusal.{Refusal}
+use Rattle.refusals.specs.Numbers.{answer_number}
 use Rattle.span_moves.specs.Moves.{move_refusal, move_after}
 use Rattle.script.specs.declared.calls.Call.{Call}
 use Rattle.script.specs.declared.calls.Call.TheVariants.{Raise, Lower, Move, Holding, Free}
@@ -26,7 +26,7 @@ said Lowered = record { numbers = 0 ∷ (2 ∷ []); quantity = None }
 said (Held q) = record { numbers = 0 ∷ (3 ∷ []); quantity = Some q }
 said (FreePlaces n) = record { numbers = 0 ∷ (4 ∷ (n ∷ [])); quantity = None }
 said Moved = record { numbers = 0 ∷ (5 ∷ []); quantity = None }
-said (NotMoved refusal) = record { numbers = span_number (Some refusal); quantity = None }
+said (NotMoved refusal) = record { numbers = answer_number (Some refusal); quantity = None }
 said (Refused refusal) = record { numbers = refusal_number refusal; quantity = None }
 
 -- a call of this kind that is refused, or taken
@@ -35,9 +35,9 @@ done kind None = record { numbers = 0 ∷ (kind ∷ []); quantity = None }
 done kind (Some refusal) = record { numbers = refusal_number refusal; quantity = None }
 
 -- a move that is refused, or taken
-abbrev pub done_move : {Q : Type 0} → Option SpanRefusal → Said Q
+abbrev pub done_move : {Q : Type 0} → Option Refusal → Said Q
 done_move None = record { numbers = 0 ∷ (5 ∷ []); quantity = None }
-done_move (Some refusal) = record { numbers = span_number (Some refusal); quantity = None }
+done_move (Some refusal) = record { numbers = answer_number (Some refusal); quantity = None }
 
 module _ {Q R : Type 0} (m : Measure Q R) (held : Grid Q) (places : ℕ) (admission : ℕ → ℕ → Q → Admission) where
   abbrev pub answered : Call Q → Said Q

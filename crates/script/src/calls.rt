@@ -1,5 +1,5 @@
 use book::answers::BookRefusal;
-use span_moves::refusal::SpanRefusal;
+use refusals::refusal::Refusal;
 
 /// A call of a book.
 #[derive(Clone, Copy)]
@@ -37,5 +37,5 @@ pub enum Answer<Q> {
     Held(Q),
     FreePlaces(usize),
     Refused(BookRefusal),
-    NotMoved(SpanRefusal),
+    NotMoved(Refusal),
 }

@@ -1,12 +1,16 @@
 -- Values of one amount are treated alike.
-use Rattle.std.proofs.Common.{◌≡◌, ℕ, Bool, true, false, cond, is_some, Some, None, Option, sym, refl, ap, ◌∙◌, subst}
+use Rattle.std.proofs.Common.{◌≡◌, ℕ, ◌-◌, Bool, true, false, cond, is_some, Some, None, Option, unwrap_or, sym, refl, ap, ◌∙◌, subst, arith}
+use mathlib.Core.Path.{fun_ext}
 use Rattle.std.proofs.lemmas.Bool.{true≢false}
 use Rattle.quantity.specs.Measure.{Measure, Sum, Rest, is_zero}
 use Rattle.book.specs.Grid.{Grid, amounts, total, filled, taken}
+use Rattle.book.specs.Admissions.{Admission}
 use Rattle.book.proofs.Counts.{total_alike, taken_is}
+use Rattle.refusals.specs.declared.refusal.Refusal.{Refusal}
 use Rattle.span_moves.specs.declared.change.Change.{Change}
 use Rattle.span_moves.specs.declared.change.Change.TheVariants.{Lowering, Raising}
-use Rattle.span_moves.specs.Spans.{next}
+use Rattle.span_moves.specs.Spans.{next, misfit, unless_some, first_of, left, left_after, becomes, unfit, barred_at, barred_sum, unadmitted}
+use Rattle.span_moves.specs.Moves.{free_places}
 
 pub some_from : {A : Type 0} (o : Option A) → is_some o ≡ true → (x : A) × (o ≡ Some x)
 some_from None e = absurd (true≢false (sym e))
@@ -21,37 +25,110 @@ module _ {Q R : Type 0} (m : Measure Q R) where
   pub zero_alike : (a b : Q) → m.amount a ≡ m.amount b → is_zero m a ≡ is_zero m b
   zero_alike a b e = bools (is_zero m a) (is_zero m b) (λ h. m.same_alike b m.nothing (sym e ∙ m.alike_same a m.nothing h)) (λ h. m.same_alike a m.nothing (e ∙ m.alike_same b m.nothing h))
 
-  -- the sum of a value of the same amount is a value of the same sum
-  joined_by : (a b q d : Q) → m.amount a ≡ m.amount b → m.amount d ≡ m.plus (m.amount b) (m.amount q) → (o : Option Q) → Sum m.plus m.Fits m.amount a q o → (c : Q) × (o ≡ Some c) × (m.amount c ≡ m.amount d)
-  joined_by a b q d e h (Some c) s = (c, refl, s ∙ (ap (λ x. m.plus x (m.amount q)) e ∙ sym h))
-  joined_by a b q d e h None s = absurd (s (subst m.Fits (h ∙ ap (λ x. m.plus x (m.amount q)) (sym e)) (m.fitting d)))
-
-  remaining_by : (a b q d : Q) → m.amount a ≡ m.amount b → m.plus (m.amount q) (m.amount d) ≡ m.amount b → (o : Option Q) → Rest m.plus m.Fits m.amount a q o → (c : Q) × (o ≡ Some c) × (m.amount c ≡ m.amount d)
-  remaining_by a b q d e h (Some c) s = (c, refl, m.cancels (m.amount q) (m.amount c) (m.amount d) (s ∙ (e ∙ sym h)))
-  remaining_by a b q d e h None s = absurd (s (m.amount d) (m.fitting d) (h ∙ sym e))
-
-  -- what the next holding is to the present one
-  abbrev pub Next : Change → Q → Q → Q → Type 0
-  Next Lowering a q d = m.plus (m.amount q) (m.amount d) ≡ m.amount a
-  Next Raising a q d = m.amount d ≡ m.plus (m.amount a) (m.amount q)
-
-  sum_tells : (a q d : Q) (o : Option Q) → Sum m.plus m.Fits m.amount a q o → o ≡ Some d → m.amount d ≡ m.plus (m.amount a) (m.amount q)
-  sum_tells a q d o s e = subst (Sum m.plus m.Fits m.amount a q) e s
-
-  rest_tells : (a q d : Q) (o : Option Q) → Rest m.plus m.Fits m.amount a q o → o ≡ Some d → m.plus (m.amount q) (m.amount d) ≡ m.amount a
-  rest_tells a q d o s e = subst (Rest m.plus m.Fits m.amount a q) e s
-
-  pub next_is : (change : Change) (a q d : Q) → next m change a q ≡ Some d → Next change a q d
-  next_is Lowering a q d e = rest_tells a q d (m.remaining a q) (m.remains a q) e
-  next_is Raising a q d e = sum_tells a q d (m.joined a q) (m.joins a q) e
-
-  pub next_alike : (change : Change) (a b q d : Q) → m.amount a ≡ m.amount b → next m change b q ≡ Some d → (c : Q) × (next m change a q ≡ Some c) × (m.amount c ≡ m.amount d)
-  next_alike Lowering a b q d e h = remaining_by a b q d e (next_is Lowering b q d h) (m.remaining a q) (m.remains a q)
-  next_alike Raising a b q d e h = joined_by a b q d e (next_is Raising b q d h) (m.joined a q) (m.joins a q)
-
   pub taken_alike : (g h : Grid Q) → amounts m g ≡ amounts m h → taken m g ≡ taken m h
   unfolding amounts
   taken_alike g h e =
       taken_is m g
       ∙ (total_alike (λ p. total (filled m g p) 100) (λ p. total (filled m h p) 100) 32 (λ p _. total_alike (filled m g p) (filled m h p) 100 (λ t _. ap {B = ℕ} (λ b. cond b 0 1) (zero_alike (g p t) (h p t) (ap (λ f. f p t) e))))
       ∙ sym (taken_is m h))
+
+  -- two answers: both none, or values of one amount
+  abbrev pub Same : Option Q → Option Q → Type 0
+  Same None None = Unit {0}
+  Same None (Some d) = ⊥
+  Same (Some c) None = ⊥
+  Same (Some c) (Some d) = m.amount c ≡ m.amount d
+
+  module _ (a b q r : Q) (e : m.amount a ≡ m.amount b) (f : m.amount q ≡ m.amount r) where
+    joined_same : (o p : Option Q) → Sum m.plus m.Fits m.amount a q o → Sum m.plus m.Fits m.amount b r p → Same o p
+    joined_same None None s t = tt
+    joined_same None (Some d) s t = s (subst m.Fits (t ∙ (λ i. m.plus (sym e i) (sym f i))) (m.fitting d))
+    joined_same (Some c) None s t = t (subst m.Fits (s ∙ (λ i. m.plus (e i) (f i))) (m.fitting c))
+    joined_same (Some c) (Some d) s t = s ∙ ((λ i. m.plus (e i) (f i)) ∙ sym t)
+
+    remaining_same : (o p : Option Q) → Rest m.plus m.Fits m.amount a q o → Rest m.plus m.Fits m.amount b r p → Same o p
+    remaining_same None None s t = tt
+    remaining_same None (Some d) s t = s (m.amount d) (m.fitting d) (ap (λ x. m.plus x (m.amount d)) f ∙ (t ∙ sym e))
+    remaining_same (Some c) None s t = t (m.amount c) (m.fitting c) (ap (λ x. m.plus x (m.amount c)) (sym f) ∙ (s ∙ e))
+    remaining_same (Some c) (Some d) s t = m.cancels (m.amount q) (m.amount c) (m.amount d) (s ∙ (e ∙ (sym t ∙ ap (λ x. m.plus x (m.amount d)) (sym f))))
+
+    pub next_same : (change : Change) → Same (next m change a q) (next m change b r)
+    next_same Lowering = remaining_same (m.remaining a q) (m.remaining b r) (m.remains a q) (m.remains b r)
+    next_same Raising = joined_same (m.joined a q) (m.joined b r) (m.joins a q) (m.joins b r)
+
+  same_some : (o p : Option Q) (d : Q) → Same o p → p ≡ Some d → (c : Q) × (o ≡ Some c) × (m.amount c ≡ m.amount d)
+  same_some None None d s h = absurd (let z : ◌≡◌ {A = ℕ} 0 1 = cc in omega arith)
+  same_some None (Some x) d s h = absurd s
+  same_some (Some c) None d s h = absurd s
+  same_some (Some c) (Some x) d s h = (c, refl, s ∙ ap m.amount (let k : x ≡ d = cc in k))
+
+  pub next_alike : (change : Change) (a b q r d : Q) → m.amount a ≡ m.amount b → m.amount q ≡ m.amount r → next m change b r ≡ Some d → (c : Q) × (next m change a q ≡ Some c) × (m.amount c ≡ m.amount d)
+  next_alike change a b q r d e f h = same_some (next m change a q) (next m change b r) d (next_same a b q r e f change) h
+
+  -- what the next holding is to the present one
+  abbrev pub Next : Change → Q → Q → Q → Type 0
+  Next Lowering a q d = m.plus (m.amount q) (m.amount d) ≡ m.amount a
+  Next Raising a q d = m.amount d ≡ m.plus (m.amount a) (m.amount q)
+
+  pub next_is : (change : Change) (a q d : Q) → next m change a q ≡ Some d → Next change a q d
+  next_is Lowering a q d e = subst (Rest m.plus m.Fits m.amount a q) e (m.remains a q)
+  next_is Raising a q d e = subst (Sum m.plus m.Fits m.amount a q) e (m.joins a q)
+
+  unless_same : (refusal : Refusal) (o p : Option Q) → Same o p → unless_some refusal o ≡ unless_some refusal p
+  unless_same refusal None None s = refl
+  unless_same refusal None (Some d) s = absurd s
+  unless_same refusal (Some c) None s = absurd s
+  unless_same refusal (Some c) (Some d) s = refl
+
+  value_same : (a b : Q) → m.amount a ≡ m.amount b → (o p : Option Q) → Same o p → m.amount (unwrap_or o a) ≡ m.amount (unwrap_or p b)
+  value_same a b e None None s = e
+  value_same a b e None (Some d) s = absurd s
+  value_same a b e (Some c) None s = absurd s
+  value_same a b e (Some c) (Some d) s = s
+
+-- two rows of holdings, and two quantities, of the same amounts
+module _ {Q R : Type 0} (m : Measure Q R) (held other : Grid Q) (p : ℕ) (q r : Q) (row : (t : ℕ) → m.amount (other p t) ≡ m.amount (held p t)) (f : m.amount r ≡ m.amount q) where
+  both_next : (change : Change) (t : ℕ) → Same m (next m change (other p t) r) (next m change (held p t) q)
+  both_next change t = next_same m (other p t) (held p t) r q (row t) f change
+
+  pub unfit_row : (change : Change) (lo n : ℕ) → first_of (unfit m other change p r) lo n ≡ first_of (unfit m held change p q) lo n
+  unfit_row change lo n = ap (λ g. first_of g lo n) (fun_ext (λ t. unless_same m (misfit change p t) (next m change (other p t) r) (next m change (held p t) q) (both_next change t)))
+
+  pub became_row : (change : Change) (t : ℕ) → m.amount (becomes m other change p r t) ≡ m.amount (becomes m held change p q t)
+  became_row change t = value_same m (other p t) (held p t) (row t) (next m change (other p t) r) (next m change (held p t) q) (both_next change t)
+
+  pub left_row : (change : Change) (free : Option ℕ) (lo n : ℕ) → left_after m other change p r free lo n ≡ left_after m held change p q free lo n
+  left_row change free lo n =
+      ap (λ was. left was (λ t. is_zero m (becomes m other change p r t)) free lo n) (fun_ext (λ t. zero_alike m (other p t) (held p t) (row t)))
+      ∙ ap (λ will. left (λ t. is_zero m (held p t)) will free lo n) (fun_ext (λ t. zero_alike m (becomes m other change p r t) (becomes m held change p q t) (became_row change t)))
+
+  -- where all values of the sum are admitted alike, so are the raises
+  module _ (admission : ℕ → ℕ → Q → Admission) (t : ℕ) where
+    abbrev Fair : Option Q → Type 0
+    Fair None = Unit {0}
+    Fair (Some s) = (v : Q) → m.amount v ≡ m.amount s → admission p t v ≡ admission p t s
+
+    barred_same : (o sum : Option Q) → Same m o sum → Fair sum → barred_sum (admission p t) p t o ≡ barred_sum (admission p t) p t sum
+    barred_same None None s h = refl
+    barred_same None (Some d) s h = absurd s
+    barred_same (Some c) None s h = absurd s
+    barred_same (Some c) (Some d) s h = ap (barred_at p t) (h c s)
+
+    pub barred_row : (sum : Option Q) → m.joined (held p t) q ≡ sum → Fair sum → unadmitted m other admission p r t ≡ barred_sum (admission p t) p t sum
+    barred_row sum e h = barred_same (m.joined (other p t) r) sum (subst (Same m (m.joined (other p t) r)) e (both_next Raising t)) h
+
+-- holdings of the same amounts
+module _ {Q R : Type 0} (m : Measure Q R) (held other : Grid Q) (e : amounts m other ≡ amounts m held) where
+  pub rows : (p t : ℕ) → m.amount (other p t) ≡ m.amount (held p t)
+  unfolding amounts
+  rows p t = ap (λ g. g p t) e
+
+  pub free_alike : (places : ℕ) (admission : ℕ → ℕ → Q → Admission) → free_places m other places admission ≡ free_places m held places admission
+  free_alike places admission = ap (λ n. Some (places - n)) (taken_alike m other held e)
+
+  module _ (q r : Q) (f : m.amount r ≡ m.amount q) (change : Change) (p : ℕ) where
+    pub fits_alike : (lo n : ℕ) → first_of (unfit m other change p r) lo n ≡ first_of (unfit m held change p q) lo n
+    fits_alike lo n = unfit_row m held other p q r (rows p) f change lo n
+
+    pub lefts_alike : (free : Option ℕ) (lo n : ℕ) → left_after m other change p r free lo n ≡ left_after m held change p q free lo n
+    lefts_alike free lo n = left_row m held other p q r (rows p) f change free lo n

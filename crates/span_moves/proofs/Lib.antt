@@ -1,9 +1,9 @@
 mod Firsts
 mod Lefts
-mod Alike
+pub mod Alike
 mod Spanned
 mod Steps
-mod Refusals
 mod Whole
 mod Moving
+pub mod Shares
 mod MoveWhole

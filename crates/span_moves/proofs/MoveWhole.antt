@@ -1,87 +1,104 @@
 -- Which refusal of a move comes, by what the checks found.
-use Rattle.std.proofs.Common.{◌≡◌, ℕ, ◌+◌, List, [], ◌∷◌, ◌++◌, Some, None, Option, sym, refl, ap, ◌∙◌, arith}
+use Rattle.std.proofs.Common.{◌≡◌, ℕ, ◌+◌, List, [], ◌∷◌, Some, None, Option, sym, refl, ap, ◌∙◌}
 use Rattle.quantity.specs.Measure.{Measure}
 use Rattle.book.specs.Grid.{Grid, amounts}
-use Rattle.book.specs.declared.answers.Admission.{Admission}
+use Rattle.book.specs.Admissions.{Admission}
+use Rattle.refusals.specs.declared.refusal.Refusal.{Refusal}
+use Rattle.refusals.specs.First.{first_some, unless_refused}
+use Rattle.refusals.proofs.Firsts.{pass, stop, alone, front_stops, front_passes}
 use Rattle.span_moves.specs.declared.change.Change.TheVariants.{Lowering, Raising}
-use Rattle.span_moves.specs.declared.refusal.SpanRefusal.{SpanRefusal}
-use Rattle.span_moves.specs.declared.refusal.SpanRefusal.TheVariants.{NoFreePlace}
-use Rattle.span_moves.specs.Spans.{first_some, first_of, crowding, count, unless_refused, no_provider, no_span, one_provider, unfit, unadmitted, left_after}
+use Rattle.span_moves.specs.Spans.{Alike, first_of, crowding, count, no_provider, no_span, one_provider, unfit, unadmitted, left_after}
 use Rattle.span_moves.specs.Moves.{free_places, move_refusal, moved, move_after}
-use Rattle.span_moves.proofs.Refusals.{pass, stop}
+use Rattle.span_moves.proofs.Alike.{free_alike, fits_alike, lefts_alike}
 
-front_stops : (xs ys : List (Option SpanRefusal)) (r : SpanRefusal) → first_some xs ≡ Some r → first_some (xs ++ ys) ≡ Some r
-front_stops [] ys r e = absurd (let z : ◌≡◌ {A = ℕ} 0 1 = cc in omega arith)
-front_stops (None ∷ xs) ys r e = front_stops xs ys r e
-front_stops (Some x ∷ xs) ys r e = e
+abbrev conditions : (giver taker first last : ℕ) → List (Option Refusal)
+conditions giver taker first last = no_provider giver ∷ (no_provider taker ∷ (no_span first last ∷ (one_provider giver taker ∷ [])))
 
-front_passes : (xs ys : List (Option SpanRefusal)) → first_some xs ≡ None → first_some (xs ++ ys) ≡ first_some ys
-front_passes [] ys e = refl
-front_passes (None ∷ xs) ys e = front_passes xs ys e
-front_passes (Some x ∷ xs) ys e = absurd (let z : ◌≡◌ {A = ℕ} 0 1 = cc in omega arith)
-
+-- one move, by what its checks find
 module _ {Q R : Type 0} (m : Measure Q R) (held : Grid Q) (places : ℕ) (admission : ℕ → ℕ → Q → Admission) (giver taker first last : ℕ) (q : Q) where
-  abbrev n : ℕ
-  n = count first last
+  abbrev why : Option Refusal
+  why = move_refusal m held places admission giver taker first last q
 
-  abbrev pub shape : Option SpanRefusal
-  shape = first_some (no_provider giver ∷ (no_provider taker ∷ (no_span first last ∷ (one_provider giver taker ∷ []))))
+  abbrev gives : Option Refusal
+  gives = first_of (unfit m held Lowering giver q) first (count first last)
 
-  abbrev gives : Option SpanRefusal
-  gives = first_of (unfit m held Lowering giver q) first n
+  abbrev takes : Option Refusal
+  takes = first_of (unfit m held Raising taker q) first (count first last)
 
-  abbrev takes : Option SpanRefusal
-  takes = first_of (unfit m held Raising taker q) first n
+  abbrev bars : Option Refusal
+  bars = first_of (unadmitted m held admission taker q) first (count first last)
 
-  abbrev bars : Option SpanRefusal
-  bars = first_of (unadmitted m held admission taker q) first n
+  abbrev lowered_left : Option ℕ
+  lowered_left = left_after m held Lowering giver q (free_places m held places admission) first (count first last)
 
-  abbrev pub lowered_left : Option ℕ
-  lowered_left = left_after m held Lowering giver q (free_places m held places admission) first n
+  abbrev raised_left : Option ℕ
+  raised_left = left_after m held Raising taker q lowered_left first (count first last)
 
-  abbrev pub raised_left : Option ℕ
-  raised_left = left_after m held Raising taker q lowered_left first n
-
-  abbrev rest : List (Option SpanRefusal)
+  abbrev rest : List (Option Refusal)
   rest = gives ∷ (takes ∷ (bars ∷ (crowding raised_left ∷ [])))
 
-  pub kept : (r : SpanRefusal) → move_refusal m held places admission giver taker first last q ≡ Some r → amounts m held ≡ move_after m held places admission giver taker first last q
-  unfolding move_after
-  kept r e = sym (ap (λ o. unless_refused o (moved m held places admission giver taker q first (last + 1)) (amounts m held)) e)
-
-  pub done : move_refusal m held places admission giver taker first last q ≡ None → moved m held places admission giver taker q first (last + 1) ≡ move_after m held places admission giver taker first last q
-  unfolding move_after
-  done e = sym (ap (λ o. unless_refused o (moved m held places admission giver taker q first (last + 1)) (amounts m held)) e)
-
-  pub misshapen : (r : SpanRefusal) → shape ≡ Some r → move_refusal m held places admission giver taker first last q ≡ Some r
+  at_shape : (x : Refusal) → first_some (conditions giver taker first last) ≡ Some x → why ≡ Some x
   unfolding move_refusal
-  misshapen r e = front_stops (no_provider giver ∷ (no_provider taker ∷ (no_span first last ∷ (one_provider giver taker ∷ [])))) rest r e
+  at_shape x e = front_stops (conditions giver taker first last) rest x e
 
-  module _ (shaped : shape ≡ None) where
-    in_shape : move_refusal m held places admission giver taker first last q ≡ first_some rest
+  module _ (shaped : first_some (conditions giver taker first last) ≡ None) where
+    in_shape : why ≡ first_some rest
     unfolding move_refusal
-    in_shape = front_passes (no_provider giver ∷ (no_provider taker ∷ (no_span first last ∷ (one_provider giver taker ∷ [])))) rest shaped
+    in_shape = front_passes (conditions giver taker first last) rest shaped
 
-    pub no_remainder : (r : SpanRefusal) → gives ≡ Some r → move_refusal m held places admission giver taker first last q ≡ Some r
-    no_remainder r e = in_shape ∙ stop gives (takes ∷ (bars ∷ (crowding raised_left ∷ []))) r e
+    at_giver : (x : Refusal) → gives ≡ Some x → why ≡ Some x
+    at_giver x e = in_shape ∙ stop gives (takes ∷ (bars ∷ (crowding raised_left ∷ []))) x e
 
     module _ (given : gives ≡ None) where
-      pub no_sum : (r : SpanRefusal) → takes ≡ Some r → move_refusal m held places admission giver taker first last q ≡ Some r
-      no_sum r e = in_shape ∙ (pass gives (takes ∷ (bars ∷ (crowding raised_left ∷ []))) given ∙ stop takes (bars ∷ (crowding raised_left ∷ [])) r e)
+      at_taker : (x : Refusal) → takes ≡ Some x → why ≡ Some x
+      at_taker x e = in_shape ∙ (pass gives (takes ∷ (bars ∷ (crowding raised_left ∷ []))) given ∙ stop takes (bars ∷ (crowding raised_left ∷ [])) x e)
 
-      module _ (taken-all : takes ≡ None) where
-        at_bars : move_refusal m held places admission giver taker first last q ≡ first_some (bars ∷ (crowding raised_left ∷ []))
-        at_bars = in_shape ∙ (pass gives (takes ∷ (bars ∷ (crowding raised_left ∷ []))) given ∙ pass takes (bars ∷ (crowding raised_left ∷ [])) taken-all)
+      module _ (taken : takes ≡ None) where
+        fitting : why ≡ first_some (bars ∷ (crowding raised_left ∷ []))
+        fitting = in_shape ∙ (pass gives (takes ∷ (bars ∷ (crowding raised_left ∷ []))) given ∙ pass takes (bars ∷ (crowding raised_left ∷ [])) taken)
 
-        pub barred : (r : SpanRefusal) → bars ≡ Some r → move_refusal m held places admission giver taker first last q ≡ Some r
-        barred r e = at_bars ∙ stop bars (crowding raised_left ∷ []) r e
+        at_bars : (x : Refusal) → bars ≡ Some x → why ≡ Some x
+        at_bars x e = fitting ∙ stop bars (crowding raised_left ∷ []) x e
 
-        module _ (welcome : bars ≡ None) where
-          at_room : move_refusal m held places admission giver taker first last q ≡ first_some (crowding raised_left ∷ [])
-          at_room = at_bars ∙ pass bars (crowding raised_left ∷ []) welcome
+        at_room : bars ≡ None → (room : Option ℕ) → raised_left ≡ room → why ≡ crowding room
+        at_room e room h = fitting ∙ (pass bars (crowding raised_left ∷ []) e ∙ (alone (crowding raised_left) ∙ ap crowding h))
 
-          pub no_room : raised_left ≡ None → move_refusal m held places admission giver taker first last q ≡ Some NoFreePlace
-          no_room e = at_room ∙ ap (λ o. first_some (crowding o ∷ [])) e
+-- the same of all holdings and quantities of these amounts
+module _ {Q R : Type 0} (m : Measure Q R) (held : Grid Q) (places : ℕ) (admission : ℕ → ℕ → Q → Admission) (giver taker first last : ℕ) (q : Q) where
+  abbrev Told : Option Refusal → Type 0
+  Told x = Alike m held q (λ other r. move_refusal m other places admission giver taker first last r) x
 
-          pub taken_whole : (k : ℕ) → raised_left ≡ Some k → move_refusal m held places admission giver taker first last q ≡ None
-          taken_whole k e = at_room ∙ ap (λ o. first_some (crowding o ∷ [])) e
+  abbrev Barred : Option Refusal → Type 0
+  Barred x = Alike m held q (λ other r. first_of (unadmitted m other admission taker r) first (count first last)) x
+
+  pub kept : (x : Refusal) → Told (Some x) → amounts m held ≡ move_after m held places admission giver taker first last q
+  unfolding move_after
+  kept x told = ap (λ o. unless_refused o (moved m held giver taker q first (last + 1)) (amounts m held)) (told held q refl refl)
+
+  pub done : Told None → moved m held giver taker q first (last + 1) ≡ move_after m held places admission giver taker first last q
+  unfolding move_after
+  done told = ap (λ o. unless_refused o (moved m held giver taker q first (last + 1)) (amounts m held)) (told held q refl refl)
+
+  pub misshapen : (x : Refusal) → first_some (conditions giver taker first last) ≡ Some x → Told (Some x)
+  misshapen x i other r e f = sym (at_shape m other places admission giver taker first last r x i)
+
+  left_same : (other : Grid Q) (r : Q) → amounts m other ≡ amounts m held → m.amount r ≡ m.amount q → raised_left m other places admission giver taker first last r ≡ raised_left m held places admission giver taker first last q
+  left_same other r e f =
+      ap (λ o. left_after m other Raising taker r (left_after m other Lowering giver r o first (count first last)) first (count first last)) (free_alike m held other e places admission)
+      ∙ (ap (λ o. left_after m other Raising taker r o first (count first last)) (lefts_alike m held other e q r f Lowering giver (free_places m held places admission) first (count first last))
+      ∙ lefts_alike m held other e q r f Raising taker (lowered_left m held places admission giver taker first last q) first (count first last))
+
+  module _ (shaped : first_some (conditions giver taker first last) ≡ None) where
+    pub no_remainder : (x : Refusal) → gives m held places admission giver taker first last q ≡ Some x → Told (Some x)
+    no_remainder x i other r e f = sym (at_giver m other places admission giver taker first last r shaped x (fits_alike m held other e q r f Lowering giver first (count first last) ∙ i))
+
+    module _ (given : gives m held places admission giver taker first last q ≡ None) where
+      pub no_sum : (x : Refusal) → takes m held places admission giver taker first last q ≡ Some x → Told (Some x)
+      no_sum x i other r e f = sym (at_taker m other places admission giver taker first last r shaped (fits_alike m held other e q r f Lowering giver first (count first last) ∙ given) x (fits_alike m held other e q r f Raising taker first (count first last) ∙ i))
+
+      module _ (taken : takes m held places admission giver taker first last q ≡ None) where
+        pub barred : (x : Refusal) → Barred (Some x) → Told (Some x)
+        barred x i other r e f = sym (at_bars m other places admission giver taker first last r shaped (fits_alike m held other e q r f Lowering giver first (count first last) ∙ given) (fits_alike m held other e q r f Raising taker first (count first last) ∙ taken) x (sym (i other r e f)))
+
+        pub by_room : Barred None → (room : Option ℕ) → raised_left m held places admission giver taker first last q ≡ room → Told (crowding room)
+        by_room i room h other r e f = sym (at_room m other places admission giver taker first last r shaped (fits_alike m held other e q r f Lowering giver first (count first last) ∙ given) (fits_alike m held other e q r f Raising taker first (count first last) ∙ taken) (sym (i other r e f)) room (left_same other r e f ∙ h))

@@ -1,7 +1,7 @@
 -- The amounts of a span that is changed quarter by quarter.
-use Rattle.std.proofs.Common.{◌≡◌, ℕ, ◌+◌, ◌≤◌, Bool, true, false, cond, ◌&&◌, eqb, ltb, leb, sym, refl, ap, arith}
+use Rattle.std.proofs.Common.{◌≡◌, ℕ, ◌+◌, ◌<◌, ◌≤◌, Bool, true, false, cond, ◌&&◌, eqb, ltb, leb, sym, refl, ap, arith}
 use mathlib.Core.Path.{fun_ext}
-use Rattle.std.proofs.lemmas.Bool.{and_right, cond-false, le-ltb}
+use Rattle.std.proofs.lemmas.Bool.{and_parts, and_right, eqb-true, leb-true, ltb-true, cond-false, le-ltb}
 use Rattle.std.proofs.lemmas.Bool.Decides.{nat_tests}
 use Rattle.quantity.specs.Measure.{Measure}
 use Rattle.book.specs.Grid.{Grid, put, amounts}
@@ -11,6 +11,12 @@ use Rattle.span_moves.specs.Spans.{becomes, spanned}
 -- whether a provider and quarter are in the span
 abbrev pub within : ℕ → ℕ → ℕ → ℕ → ℕ → Bool
 within p lo hi x u = eqb x p && (leb lo u && ltb u hi)
+
+pub within_parts : (p lo hi x u : ℕ) → within p lo hi x u ≡ true → (x ≡ p) × (lo ≤ u) × (u < hi)
+within_parts p lo hi x u e =
+    let v = and_parts (eqb x p) (leb lo u && ltb u hi) e in
+    let w = and_parts (leb lo u) (ltb u hi) v.1 in
+    (eqb-true x p v.0, leb-true lo u w.0, ltb-true u hi w.1)
 
 before : (p lo hi x u : ℕ) → hi ≤ u → within p lo hi x u ≡ false
 before p lo hi x u h = and_right (eqb x p) (leb lo u && ltb u hi) (and_right (leb lo u) (ltb u hi) (le-ltb u hi h))

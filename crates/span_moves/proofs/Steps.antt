@@ -4,15 +4,14 @@ use Rattle.std.proofs.lemmas.Bool.{lt-leb, true≢false}
 use Rattle.quantity.specs.Measure.{Measure, is_zero}
 use Rattle.book.specs.Grid.{Grid, in_range, put, amounts, taken, filled}
 use Rattle.book.specs.Calls.{everything, barred, full, crowded, change_refusal, changed, raise_refusal, lower_refusal}
-use Rattle.book.specs.declared.answers.Admission.{Admission}
-use Rattle.book.specs.declared.answers.Admission.TheVariants.{Yes}
+use Rattle.book.specs.Admissions.{Admission}
 use Rattle.book.specs.declared.answers.BookRefusal.TheVariants.{SumDoesNotFit, NoRemainder}
 use Rattle.book.proofs.Grids.{range_from}
 use Rattle.book.proofs.Counts.{taken_put}
 use Rattle.book.proofs.Changes.{raise_inside, lower_inside, raised_is, lowered_is, amounts_put}
 use Rattle.span_moves.specs.declared.change.Change.{Change}
 use Rattle.span_moves.specs.declared.change.Change.TheVariants.{Lowering, Raising}
-use Rattle.span_moves.specs.Spans.{next, step_left, then_left, becomes, spanned, left_after, count}
+use Rattle.span_moves.specs.Spans.{next, step_left, then_left, barred_at, barred_sum, becomes, spanned, left_after, count}
 use Rattle.span_moves.specs.Ready.{changed_one, Welcome, Ready}
 use Rattle.span_moves.proofs.Lefts.{left_more, left_before}
 use Rattle.span_moves.proofs.Alike.{some_from, zero_alike, next_alike, taken_alike}
@@ -35,11 +34,8 @@ room_step false b places before n l e s = refl
 
 module _ {Q R : Type 0} (m : Measure Q R) (held : Grid Q) (places : ℕ) (admission : ℕ → ℕ → Q → Admission) (p t : ℕ) (q c : Q) (inside : in_range p t ≡ true) (roomy : full m held places p t c ≡ false) where
   -- a change to c that has a place
-  changed_to : (change : Change) → next m change (held p t) q ≡ Some c → admission p t c ≡ Yes → changed_one m held places admission change p t q ≡ put (amounts m held) p t (m.amount c)
-  changed_to Lowering e y =
-      let free : lower_refusal m held places p t q ≡ None = lower_inside m held places p t q inside ∙ (ap (change_refusal m held places NoRemainder (everything p t) p t) e ∙ ap (crowded m held places) roomy) in
-      lowered_is m held places p t q ∙ (ap (λ r. changed m held p t r (m.remaining (held p t) q)) free ∙ ap (changed m held p t None) e)
-  changed_to Raising e y =
+  raised_to : next m Raising (held p t) q ≡ Some c → admission p t c ≡ None → changed_one m held places admission Raising p t q ≡ put (amounts m held) p t (m.amount c)
+  raised_to e y =
       let free : raise_refusal m held places admission p t q ≡ None = raise_inside m held places p t q admission inside ∙ (ap (change_refusal m held places SumDoesNotFit (admission p t) p t) e ∙ (ap (λ a. barred a (crowded m held places (full m held places p t c))) y ∙ ap (crowded m held places) roomy)) in
       raised_is m held places p t q admission ∙ (ap (λ r. changed m held p t r (m.joined (held p t) q)) free ∙ ap (changed m held p t None) e)
 
@@ -48,9 +44,13 @@ module _ {Q R : Type 0} (m : Measure Q R) (held : Grid Q) (places : ℕ) (admiss
       let free : lower_refusal m held places p t q ≡ None = lower_inside m held places p t q inside ∙ (ap (change_refusal m held places NoRemainder (everything p t) p t) e ∙ ap (crowded m held places) roomy) in
       lowered_is m held places p t q ∙ (ap (λ r. changed m held p t r (m.remaining (held p t) q)) free ∙ ap (changed m held p t None) e)
 
-  pub welcome_to : (held0 : Grid Q) (d : Q) (change : Change) → Welcome m held0 places admission change p q t → next m change (held0 p t) q ≡ Some d → m.amount c ≡ m.amount d → next m change (held p t) q ≡ Some c → changed_one m held places admission change p t q ≡ put (amounts m held) p t (m.amount c)
-  welcome_to held0 d Lowering w e0 k e = lowered_to e
-  welcome_to held0 d Raising w e0 k e = changed_to Raising e (w d c e0 k)
+  barred_yes : (a : Admission) → barred_at p t a ≡ None → a ≡ None
+  barred_yes None e = refl
+  barred_yes (Some cause) e = absurd (let z : ◌≡◌ {A = ℕ} 0 1 = cc in omega arith)
+
+  welcome_to : (held0 : Grid Q) (change : Change) → Welcome m held0 places admission change p q t → m.amount (held p t) ≡ m.amount (held0 p t) → next m change (held p t) q ≡ Some c → changed_one m held places admission change p t q ≡ put (amounts m held) p t (m.amount c)
+  welcome_to held0 Lowering w k e = lowered_to e
+  welcome_to held0 Raising w k e = raised_to e (barred_yes (admission p t c) (ap (barred_sum (admission p t) p t) (sym e) ∙ w (held p t) k))
 
 module _ {Q R : Type 0} (m : Measure Q R) (held0 : Grid Q) (places : ℕ) (admission : ℕ → ℕ → Q → Admission) (change : Change) (p lo last : ℕ) (q : Q) (ready : Ready m held0 places admission change p lo last q) (t : ℕ) (l : lo ≤ t) (h : t ≤ last) (held : Grid Q) (so_far : amounts m held ≡ spanned m held0 change p q lo t) (left_is : left_after m held0 change p q (Some (places - taken m held0)) lo (t - lo) ≡ Some (places - taken m held)) (bound : taken m held ≤ places) where
   inside : in_range p t ≡ true
@@ -67,7 +67,7 @@ module _ {Q R : Type 0} (m : Measure Q R) (held0 : Grid Q) (places : ℕ) (admis
   d = old_next.0
 
   new_next : (c : Q) × (next m change (held p t) q ≡ Some c) × (m.amount c ≡ m.amount d)
-  new_next = next_alike m change (held p t) (held0 p t) q d same old_next.1
+  new_next = next_alike m change (held p t) (held0 p t) q q d same refl old_next.1
 
   abbrev c : Q
   c = new_next.0
@@ -95,7 +95,7 @@ module _ {Q R : Type 0} (m : Measure Q R) (held0 : Grid Q) (places : ℕ) (admis
       (ap (λ n. is_some (left_after m held0 change p q (Some (places - taken m held0)) lo n)) (let w : ((t - lo) + 1) + (last - t) ≡ count lo last = omega arith in w) ∙ ready.room)
 
   put_is : changed_one m held places admission change p t q ≡ put (amounts m held) p t (m.amount c)
-  put_is = welcome_to m held places admission p t q c inside (room_step (is_zero m (held p t)) (is_zero m c) places (taken m held) (places - taken m held) bound refl some_left) held0 d change (ready.welcome t l h) old_next.1 new_next.2 new_next.1
+  put_is = welcome_to m held places admission p t q c inside (room_step (is_zero m (held p t)) (is_zero m c) places (taken m held) (places - taken m held) bound refl some_left) held0 change (ready.welcome t l h) same new_next.1
 
   -- the amounts after this quarter
   pub next_amounts : changed_one m held places admission change p t q ≡ spanned m held0 change p q lo (t + 1)

@@ -1,4 +1,3 @@
-pub mod Numbers
 pub mod Spans
 pub mod Ready
 pub mod Moves

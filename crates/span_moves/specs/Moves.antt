@@ -2,15 +2,26 @@
 use Rattle.std.specs.Prelude.{◌≡◌, ℕ, ◌+◌, ◌-◌, cond, ◌&&◌, [], ◌∷◌, Some, None, Option, ◌==◌, nat_le, nat_lt}
 use Rattle.quantity.specs.Measure.{Measure}
 use Rattle.book.specs.Grid.{Grid, amounts, taken}
-use Rattle.book.specs.declared.answers.Admission.{Admission}
+use Rattle.book.specs.Admissions.{Admission}
 use Rattle.span_moves.specs.declared.change.Change.{Change}
 use Rattle.span_moves.specs.declared.change.Change.TheVariants.{Lowering, Raising}
-use Rattle.span_moves.specs.declared.refusal.SpanRefusal.{SpanRefusal}
-use Rattle.span_moves.specs.Spans.{first_some, first_of, crowding, count, unless_refused, no_provider, no_span, one_provider, becomes, unfit, unadmitted, spanned, left_after}
+use Rattle.refusals.specs.declared.refusal.Refusal.{Refusal}
+use Rattle.refusals.specs.First.{first_some, unless_refused}
+use Rattle.span_moves.specs.Spans.{first_of, crowding, count, no_provider, no_span, one_provider, becomes, unfit, unadmitted, spanned, left_after}
+
+module _ {Q R : Type 0} (m : Measure Q R) (held : Grid Q) where
+  -- the giver has its remainders and the taker its sums in the quarters from lo on and before hi
+  unfoldable pub moved_holdings : ℕ → ℕ → Q → ℕ → ℕ → Grid Q
+  moved_holdings giver taker q lo hi =
+      λ x u.
+      cond (x == giver && (nat_le lo u && nat_lt u hi)) (becomes m held Lowering giver q u) (cond (x == taker && (nat_le lo u && nat_lt u hi)) (becomes m held Raising taker q u) (held x u))
+
+  unfoldable pub moved : ℕ → ℕ → Q → ℕ → ℕ → Grid m.Amount
+  moved giver taker q lo hi = amounts m (moved_holdings giver taker q lo hi)
 
 module _ {Q R : Type 0} (m : Measure Q R) (held : Grid Q) (places : ℕ) (admission : ℕ → ℕ → Q → Admission) where
   -- only what is raised has to be admitted
-  abbrev pub unwelcome : Change → ℕ → Q → ℕ → Option SpanRefusal
+  abbrev pub unwelcome : Change → ℕ → Q → ℕ → Option Refusal
   unwelcome Lowering p q t = None
   unwelcome Raising p q t = unadmitted m held admission p q t
 
@@ -19,7 +30,7 @@ module _ {Q R : Type 0} (m : Measure Q R) (held : Grid Q) (places : ℕ) (admiss
   free_places = Some (places - taken m held)
 
   -- why a span is not raised or lowered, if it is not: the first of these
-  unfoldable pub span_refusal : Change → ℕ → ℕ → ℕ → Q → Option SpanRefusal
+  unfoldable pub span_refusal : Change → ℕ → ℕ → ℕ → Q → Option Refusal
   span_refusal change p first last q =
       first_some
       (no_provider p
@@ -34,7 +45,7 @@ module _ {Q R : Type 0} (m : Measure Q R) (held : Grid Q) (places : ℕ) (admiss
   span_after change p first last q = unless_refused (span_refusal change p first last q) (spanned m held change p q first (last + 1)) (amounts m held)
 
   -- why a span is not moved, if it is not: the first of these; all lowerings come before all raisings
-  unfoldable pub move_refusal : ℕ → ℕ → ℕ → ℕ → Q → Option SpanRefusal
+  unfoldable pub move_refusal : ℕ → ℕ → ℕ → ℕ → Q → Option Refusal
   move_refusal giver taker first last q =
       first_some
       (no_provider giver
@@ -47,16 +58,9 @@ module _ {Q R : Type 0} (m : Measure Q R) (held : Grid Q) (places : ℕ) (admiss
       ∷ (crowding (left_after m held Raising taker q (left_after m held Lowering giver q free_places first (count first last)) first (count first last)) ∷ [])))))))
       )
 
-  -- the giver has its remainders and the taker its sums in the quarters from lo on and before hi
-  unfoldable pub moved : ℕ → ℕ → Q → ℕ → ℕ → Grid m.Amount
-  moved giver taker q lo hi =
-      λ x u.
-      cond (x == giver && (nat_le lo u && nat_lt u hi)) (m.amount (becomes m held Lowering giver q u))
-      (cond (x == taker && (nat_le lo u && nat_lt u hi)) (m.amount (becomes m held Raising taker q u)) (m.amount (held x u)))
-
   -- the amounts after a span is moved
   unfoldable pub move_after : ℕ → ℕ → ℕ → ℕ → Q → Grid m.Amount
-  move_after giver taker first last q = unless_refused (move_refusal giver taker first last q) (moved giver taker q first (last + 1)) (amounts m held)
+  move_after giver taker first last q = unless_refused (move_refusal giver taker first last q) (moved m held giver taker q first (last + 1)) (amounts m held)
 
 -- the part of a that passes a provider in a quarter of the span, none elsewhere
 abbrev pub share : {Q R : Type 0} (m : Measure Q R) → ℕ → ℕ → ℕ → m.Amount → ℕ → ℕ → m.Amount

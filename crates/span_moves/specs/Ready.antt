@@ -1,13 +1,12 @@
 -- When every holding of a span can be changed.
-use Rattle.std.specs.Prelude.{◌≡◌, ℕ, ◌-◌, ◌<◌, ◌≤◌, true, is_some, Some}
+use Rattle.std.specs.Prelude.{◌≡◌, ℕ, ◌-◌, ◌<◌, ◌≤◌, true, is_some, Some, None}
 use Rattle.quantity.specs.Measure.{Measure}
 use Rattle.book.specs.Grid.{Grid, taken}
 use Rattle.book.specs.Calls.{raised, lowered}
-use Rattle.book.specs.declared.answers.Admission.{Admission}
-use Rattle.book.specs.declared.answers.Admission.TheVariants.{Yes}
+use Rattle.book.specs.Admissions.{Admission}
 use Rattle.span_moves.specs.declared.change.Change.{Change}
 use Rattle.span_moves.specs.declared.change.Change.TheVariants.{Lowering, Raising}
-use Rattle.span_moves.specs.Spans.{next, left_after, count}
+use Rattle.span_moves.specs.Spans.{next, barred_sum, left_after, count}
 
 module _ {Q R : Type 0} (m : Measure Q R) (held : Grid Q) (places : ℕ) (admission : ℕ → ℕ → Q → Admission) where
   -- the amounts after the change of one holding
@@ -15,10 +14,10 @@ module _ {Q R : Type 0} (m : Measure Q R) (held : Grid Q) (places : ℕ) (admiss
   changed_one Lowering p t q = lowered m held places p t q
   changed_one Raising p t q = raised m held places admission p t q
 
-  -- every value of the changed amount is admitted: asked only of a raise
+  -- every holding of this amount may be raised: nothing is asked of a lowering
   abbrev pub Welcome : Change → ℕ → Q → ℕ → Type 0
   Welcome Lowering p q t = Unit {0}
-  Welcome Raising p q t = (s other : Q) → m.joined (held p t) q ≡ Some s → m.amount other ≡ m.amount s → admission p t other ≡ Yes
+  Welcome Raising p q t = (a : Q) → m.amount a ≡ m.amount (held p t) → barred_sum (admission p t) p t (m.joined a q) ≡ None
 
   pub record Ready (change : Change) (p first last : ℕ) (q : Q) : Type 0 where
     pub provider : p < 32

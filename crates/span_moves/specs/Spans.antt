@@ -1,32 +1,26 @@
 -- What changes of a span of quarters answer and change.
-use Rattle.std.specs.Prelude.{ℕ, zero, suc, ◌+◌, ◌-◌, Bool, true, false, cond, ◌&&◌, List, [], ◌∷◌, Some, None, Option, ◌==◌, nat_le, nat_lt}
+use Rattle.std.specs.Prelude.{◌≡◌, ℕ, zero, suc, ◌+◌, ◌-◌, Bool, true, false, cond, ◌&&◌, [], ◌∷◌, Some, None, Option, ◌==◌, nat_le, nat_lt}
 use Rattle.std.specs.Option.{unwrap_or}
 use Rattle.quantity.specs.Measure.{Measure, is_zero}
-use Rattle.book.specs.Grid.{Grid}
-use Rattle.book.specs.declared.answers.Admission.{Admission}
-use Rattle.book.specs.declared.answers.Admission.TheVariants.{Yes, No}
+use Rattle.book.specs.Grid.{Grid, amounts}
+use Rattle.book.specs.Admissions.{Admission}
 use Rattle.span_moves.specs.declared.change.Change.{Change}
 use Rattle.span_moves.specs.declared.change.Change.TheVariants.{Lowering, Raising}
-use Rattle.span_moves.specs.declared.refusal.SpanRefusal.{SpanRefusal}
-use Rattle.span_moves.specs.declared.refusal.SpanRefusal.TheVariants.{NoSuchProvider, NoSuchSpan, SameProvider, NoRemainder, SumDoesNotFit, NotAdmitted, NoFreePlace}
+use Rattle.refusals.specs.First.{first_some}
+use Rattle.refusals.specs.declared.refusal.Refusal.{Refusal}
+use Rattle.refusals.specs.declared.refusal.Refusal.TheVariants.{NoSuchProvider, NoSuchSpan, SameProvider, NoRemainder, SumDoesNotFit, NotAdmitted, NoFreePlace}
 
 -- what a holding becomes: its remainder or its sum
 abbrev pub next : {Q R : Type 0} → Measure Q R → Change → Q → Q → Option Q
 next m Lowering held q = m.remaining held q
 next m Raising held q = m.joined held q
 
-abbrev pub misfit : Change → ℕ → ℕ → SpanRefusal
+abbrev pub misfit : Change → ℕ → ℕ → Refusal
 misfit Lowering p t = NoRemainder p t
 misfit Raising p t = SumDoesNotFit p t
 
--- the first refusal of a list
-abbrev pub first_some : List (Option SpanRefusal) → Option SpanRefusal
-first_some [] = None
-first_some (None ∷ os) = first_some os
-first_some (Some refusal ∷ os) = Some refusal
-
 -- the first refusal among n quarters from lo on
-unfoldable pub first_of : (ℕ → Option SpanRefusal) → ℕ → ℕ → Option SpanRefusal
+unfoldable pub first_of : (ℕ → Option Refusal) → ℕ → ℕ → Option Refusal
 first_of f lo zero = None
 first_of f lo (suc n) = first_some (f lo ∷ (first_of f (lo + 1) n ∷ []))
 
@@ -47,7 +41,7 @@ unfoldable pub left : (was will : ℕ → Bool) → Option ℕ → ℕ → ℕ �
 left was will free lo zero = free
 left was will free lo (suc n) = then_left (was (lo + n)) (will (lo + n)) (left was will free lo n)
 
-abbrev pub crowding : Option ℕ → Option SpanRefusal
+abbrev pub crowding : Option ℕ → Option Refusal
 crowding None = Some NoFreePlace
 crowding (Some n) = None
 
@@ -55,32 +49,32 @@ crowding (Some n) = None
 abbrev pub count : ℕ → ℕ → ℕ
 count first last = last + 1 - first
 
-abbrev pub unless_refused : {A : Type 0} → Option SpanRefusal → A → A → A
-unless_refused None new old = new
-unless_refused (Some refusal) new old = old
-
-abbrev pub no_provider : ℕ → Option SpanRefusal
+abbrev pub no_provider : ℕ → Option Refusal
 no_provider p = cond (nat_lt p 32) None (Some NoSuchProvider)
 
-abbrev pub no_span : ℕ → ℕ → Option SpanRefusal
+abbrev pub no_span : ℕ → ℕ → Option Refusal
 no_span first last = cond (nat_le first last && nat_lt last 100) None (Some NoSuchSpan)
 
-abbrev pub one_provider : ℕ → ℕ → Option SpanRefusal
+abbrev pub one_provider : ℕ → ℕ → Option Refusal
 one_provider giver taker = cond (giver == taker) (Some SameProvider) None
 
 -- a refusal where the quantity's call answered nothing
-abbrev pub unless_some : {Q : Type 0} → SpanRefusal → Option Q → Option SpanRefusal
+abbrev pub unless_some : {Q : Type 0} → Refusal → Option Q → Option Refusal
 unless_some refusal None = Some refusal
 unless_some refusal (Some c) = None
 
-abbrev pub barred_at : ℕ → ℕ → Admission → Option SpanRefusal
-barred_at p t Yes = None
-barred_at p t (No cause) = Some (NotAdmitted p t cause)
+abbrev pub barred_at : ℕ → ℕ → Admission → Option Refusal
+barred_at p t None = None
+barred_at p t (Some cause) = Some (NotAdmitted p t cause)
 
 -- the refusal of a sum that is not admitted
-abbrev pub barred_sum : {Q : Type 0} → (Q → Admission) → ℕ → ℕ → Option Q → Option SpanRefusal
+abbrev pub barred_sum : {Q : Type 0} → (Q → Admission) → ℕ → ℕ → Option Q → Option Refusal
 barred_sum admits p t None = None
 barred_sum admits p t (Some s) = barred_at p t (admits s)
+
+-- the answer is what is defined for all holdings and quantities of the same amounts
+abbrev pub Alike : {Q R : Type 0} → Measure Q R → Grid Q → Q → (Grid Q → Q → Option Refusal) → Option Refusal → Type 0
+Alike {Q = Q} m held q refusal answer = (other : Grid Q) (r : Q) → amounts m other ≡ amounts m held → m.amount r ≡ m.amount q → answer ≡ refusal other r
 
 module _ {Q R : Type 0} (m : Measure Q R) (held : Grid Q) where
   -- what the holding of p in t becomes, or stays
@@ -88,11 +82,11 @@ module _ {Q R : Type 0} (m : Measure Q R) (held : Grid Q) where
   becomes change p q t = unwrap_or (next m change (held p t) q) (held p t)
 
   -- why the holding of p in t does not fit the change
-  abbrev pub unfit : Change → ℕ → Q → ℕ → Option SpanRefusal
+  abbrev pub unfit : Change → ℕ → Q → ℕ → Option Refusal
   unfit change p q t = unless_some (misfit change p t) (next m change (held p t) q)
 
   -- why the holding of p in t may not be raised
-  abbrev pub unadmitted : (ℕ → ℕ → Q → Admission) → ℕ → Q → ℕ → Option SpanRefusal
+  abbrev pub unadmitted : (ℕ → ℕ → Q → Admission) → ℕ → Q → ℕ → Option Refusal
   unadmitted admission p q t = barred_sum (admission p t) p t (m.joined (held p t) q)
 
   -- the amounts with the change in the quarters from lo on and before hi

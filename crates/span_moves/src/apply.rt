@@ -1,4 +1,4 @@
-ghost use Rattle.std.specs.Prelude.{◌≡◌, ℕ, ◌+◌, ◌-◌, ◌<◌, ◌≤◌, Some};
+ghost use Rattle.std.specs.Prelude.{◌≡◌, ◌+◌, ◌-◌, ◌<◌, ◌≤◌, Some};
 ghost use Rattle.book.specs.Grid.{amounts, taken};
 ghost use Rattle.span_moves.specs.Spans.{spanned, left_after, count};
 ghost use Rattle.span_moves.specs.Ready.{Ready, changed_one};

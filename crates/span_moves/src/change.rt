@@ -1,8 +1,8 @@
 ghost use Rattle.std.specs.Prelude.{◌≡◌};
 ghost use Rattle.span_moves.specs.Spans.{next, misfit};
 
-use crate::refusal::SpanRefusal;
 use quantity::interface::Quantity;
+use refusals::refusal::Refusal;
 
 /// What is done to each holding of a span.
 #[derive(Clone, Copy, PartialEq, Eq, Debug)]
@@ -22,11 +22,11 @@ pub fn next_holding<Q: Quantity>(change: Change, held: Q, quantity: Q) -> Option
 }
 
 /// The refusal where a holding can become nothing that fits.
-pub fn misfit_refusal(change: Change, provider: u8, quarter: u8) -> SpanRefusal
+pub fn misfit_refusal(change: Change, provider: u8, quarter: u8) -> Refusal
     ensures { result ≡ misfit change provider quarter }
 {
     match change {
-        Change::Lowering => SpanRefusal::NoRemainder { provider, quarter },
-        Change::Raising => SpanRefusal::SumDoesNotFit { provider, quarter },
+        Change::Lowering => Refusal::NoRemainder { provider, quarter },
+        Change::Raising => Refusal::SumDoesNotFit { provider, quarter },
     }
 }

@@ -1,14 +1,11 @@
-ghost use Rattle.std.specs.Prelude.{◌≡◌, ℕ, ◌+◌, ◌^◌, ◌<◌, ◌≤◌, Some, OnOk};
+ghost use Rattle.std.specs.Prelude.{◌≡◌, ◌+◌, ◌^◌, ◌<◌, ◌≤◌, Some};
 ghost use Rattle.std.specs.Result.{result_err};
-ghost use Rattle.book.specs.declared.answers.Admission.TheVariants.{Yes};
-ghost use Rattle.span_moves.specs.Numbers.{span_number};
-ghost use Rattle.span_moves.specs.Spans.{first_of, unfit, unadmitted, step_left, left_after, count};
+ghost use Rattle.span_moves.specs.Spans.{Alike, first_of, unfit, unadmitted, step_left, left_after, count};
 
 use crate::change::{Change, misfit_refusal, next_holding};
-use crate::refusal::SpanRefusal;
-use book::answers::Admission;
 use book::interface::Book;
 use quantity::interface::Quantity;
+use refusals::refusal::Refusal;
 
 /// Refuses the first quarter of the span in which the changed holding does not fit.
 pub fn check_fits<B: Book>(
@@ -18,7 +15,7 @@ pub fn check_fits<B: Book>(
     first: u8,
     last: u8,
     quantity: B::Q,
-) -> Result<(), SpanRefusal>
+) -> Result<(), Refusal>
     requires { (provider < 32) × (first ≤ last) × (last < 100) }
     ensures { result_err result ≡ first_of (unfit B.Q.Quantity.measure (B.Book.holdings book.now) change provider quantity) first (count first last) }
 {
@@ -32,21 +29,21 @@ pub fn check_fits<B: Book>(
 }
 
 /// Refuses the first quarter of the span in which the raised holding is not admitted.
+/// All holdings and quantities of the same amounts are answered alike.
 pub fn check_admitted<B: Book>(
     book: &B,
     provider: u8,
     first: u8,
     last: u8,
     quantity: B::Q,
-) -> Result<(), SpanRefusal>
+) -> Result<(), Refusal>
     requires { (provider < 32) × (first ≤ last) × (last < 100) }
-    ensures value { span_number (result_err result) ≡ span_number (first_of (unadmitted B.Q.Quantity.measure (B.Book.holdings book.now) (B.Book.admission book.now) provider quantity) first (count first last)) }
-    ensures alike { OnOk result ((t : ℕ) → first ≤ t → t ≤ last → (s other : B.Q) → B.Q.Quantity.measure.joined (B.Book.holdings book.now provider t) quantity ≡ Some s → B.Q.Quantity.measure.amount other ≡ B.Q.Quantity.measure.amount s → B.Book.admission book.now provider t other ≡ Yes) }
+    ensures { Alike B.Q.Quantity.measure (B.Book.holdings book.now) quantity (λ other q. first_of (unadmitted B.Q.Quantity.measure other (B.Book.admission book.now) provider q) first (count first last)) (result_err result) }
 {
     for quarter in first..last + 1 {
         if let Some(sum) = book.holding(provider, quarter).join(quantity) {
-            if let Admission::No(cause) = book.admits(provider, quarter, sum) {
-                return Err(SpanRefusal::NotAdmitted {
+            if let Err(cause) = book.admits(provider, quarter, sum) {
+                return Err(Refusal::NotAdmitted {
                     provider,
                     quarter,
                     cause,

@@ -3,5 +3,4 @@
 mod apply;
 mod change;
 mod checks;
-pub mod refusal;
 pub mod spans;

@@ -8,7 +8,7 @@ ghost use Rattle.sparse_book.specs.Records.{apart, records_held, raised_slots, l
 use crate::lent::SparseBook;
 use crate::record::Record;
 use crate::records;
-use book::answers::{Admission, BookRefusal};
+use book::answers::{BookRefusal, Cause};
 use book::interface::Book;
 use quantity::interface::Quantity;
 use record_list::list::RecordList;
@@ -81,8 +81,8 @@ impl<'a, K: Quantity> Book for SparseBook<'a, K> {
         records::free::<K>(self.records.slots)
     }
 
-    fn admits(&self, provider: u8, quarter: u8, quantity: K) -> Admission {
-        Admission::Yes
+    fn admits(&self, provider: u8, quarter: u8, quantity: K) -> Result<(), Cause> {
+        Ok(())
     }
 
     fn layer(&self) -> u8 {

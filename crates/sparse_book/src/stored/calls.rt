@@ -8,7 +8,7 @@ ghost use Rattle.sparse_book.specs.Records.{records_held, raised_slots, lowered_
 use crate::record::Record;
 use crate::records;
 use crate::stored::StoredSparseBook;
-use book::answers::{Admission, BookRefusal};
+use book::answers::{BookRefusal, Cause};
 use book::interface::Book;
 use quantity::interface::Quantity;
 use std::alloc::{AllocError, Global};
@@ -44,8 +44,8 @@ impl<K: Quantity> Book for StoredSparseBook<K> {
         records::free::<K>(self.slots.as_slice())
     }
 
-    fn admits(&self, provider: u8, quarter: u8, quantity: K) -> Admission {
-        Admission::Yes
+    fn admits(&self, provider: u8, quarter: u8, quantity: K) -> Result<(), Cause> {
+        Ok(())
     }
 
     fn layer(&self) -> u8 {

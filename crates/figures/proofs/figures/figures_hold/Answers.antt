@@ -1,8 +1,8 @@
 use Rattle.std.proofs.Common.{refl}
 use Rattle.quantity.specs.Fcr.{volume_of, volume_by}
 use Rattle.book.specs.Grid.{total, taken, amounts}
-use Rattle.span_changes.specs.Spans.{first_of, left}
-use Rattle.span_changes.specs.Moves.{move_refusal, moved_holdings}
+use Rattle.span_moves.specs.Spans.{first_of, left}
+use Rattle.span_moves.specs.Moves.{move_refusal, moved_holdings}
 use Rattle.requests.specs.Requests.{first_place}
 use Rattle.requests.specs.Announcing.{announcement_refusal}
 use Rattle.awards.specs.Awards.{award_earns}

@@ -1,7 +1,7 @@
 use Rattle.std.proofs.Common.{◌+◌, sym, refl, ap, ◌∙◌}
 use Rattle.book.specs.Grid.{amounts}
 use Rattle.refusals.specs.First.{unless_refused}
-use Rattle.span_changes.specs.Moves.{moved, move_refusal, move_after}
+use Rattle.span_moves.specs.Moves.{moved, move_refusal, move_after}
 use Rattle.gates.specs.Gates.{passing, outcome}
 use Rattle.gates.proofs.Moved.{left_alike}
 use Rattle.gates.proofs.passing.make_move.Goals as goal

@@ -1,12 +1,11 @@
 use Rattle.std.proofs.Common.{◌≡◌, ◌-◌, ◌<◌, ◌≤◌, is_some, Some, None, sym, refl, ap, ◌∙◌, arith}
 use Rattle.book.specs.Grid.{taken}
-use Rattle.span_moves.specs.declared.refusal.SpanRefusal.TheVariants.{NoSuchProvider, NoSuchSpan, NoFreePlace}
-use Rattle.span_moves.specs.Numbers.{span_number}
-use Rattle.span_moves.specs.Spans.{unfit, first_of, left_after, count}
-use Rattle.span_moves.specs.Moves.{unwelcome}
-use Rattle.span_moves.proofs.Firsts.{none_from, first_clear, fit_next}
-use Rattle.span_moves.proofs.Refusals.{none_number, some_number}
-use Rattle.span_moves.proofs.Whole.{kept, done, no_such_provider, no_such_span, misfit_first, barred_first, no_room, taken_whole}
+use Rattle.refusals.specs.declared.refusal.Refusal.TheVariants.{NoSuchProvider, NoSuchSpan, NoFreePlace}
+use Rattle.refusals.specs.Numbers.{answer_number}
+use Rattle.span_moves.specs.Spans.{left_after, count}
+use Rattle.span_moves.proofs.Firsts.{none_from}
+use Rattle.span_moves.proofs.Shares.{all_fit}
+use Rattle.span_moves.proofs.Whole.{kept, done, no_such_provider, no_such_span, misfit_first, barred_first, by_room, welcome_from}
 use Rattle.span_moves.proofs.spans.change_span.Goals as goal
 
 pub returns-then-provider-ge32 : goal.returns-then-provider-ge32
@@ -20,10 +19,11 @@ returns-then-provider-ge32 g c =
     let first = c.args.first in
     let last = c.args.last in
     let q = c.args.quantity in
-    let why = no_such_provider m held places admission change p first last q c.if-provider-ge32.true in
+    let told = no_such_provider m held places admission change p first last q c.if-provider-ge32.true in
     record {
-      answer = ap span_number (sym why);
-      after = kept m held places admission change p first last q NoSuchProvider why;
+      answer = ap answer_number (told held q refl refl);
+      alike = told;
+      after = kept m held places admission change p first last q NoSuchProvider told;
       places = refl;
       admission = refl;
       layer = refl;
@@ -40,10 +40,11 @@ returns-then-first-last g c =
     let first = c.args.first in
     let last = c.args.last in
     let q = c.args.quantity in
-    let why = no_such_span m held places admission change p first last q c.if-provider-ge32.false (λ h k. omega (arith, c.then-first-last.either)) in
+    let told = no_such_span m held places admission change p first last q c.if-provider-ge32.false (λ h k. omega (arith, c.then-first-last.either)) in
     record {
-      answer = ap span_number (sym why);
-      after = kept m held places admission change p first last q NoSuchSpan why;
+      answer = ap answer_number (told held q refl refl);
+      alike = told;
+      after = kept m held places admission change p first last q NoSuchSpan told;
       places = refl;
       admission = refl;
       layer = refl;
@@ -63,10 +64,11 @@ returns-in-Err g c =
     let hp : p < 32 = omega arith in
     let hs : first ≤ last = omega arith in
     let hl : last < 100 = omega arith in
-    let why = misfit_first m held places admission change p first last q hp hs hl c.in-Err.misfit (sym c.in-Err.ensures) in
+    let told = misfit_first m held places admission change p first last q hp hs hl c.in-Err.misfit (sym c.in-Err.ensures) in
     record {
-      answer = ap span_number (sym why);
-      after = kept m held places admission change p first last q c.in-Err.misfit why;
+      answer = ap answer_number (told held q refl refl);
+      alike = told;
+      after = kept m held places admission change p first last q c.in-Err.misfit told;
       places = refl;
       admission = refl;
       layer = refl;
@@ -86,11 +88,11 @@ returns-in-Err-check_welcome g c =
     let hp : p < 32 = omega arith in
     let hs : first ≤ last = omega arith in
     let hl : last < 100 = omega arith in
-    let w = some_number c.in-Err-check_welcome.barred (first_of (unwelcome m held places admission change p q) first (count first last)) c.in-Err-check_welcome.ensures.value in
-    let why = barred_first m held places admission change p first last q hp hs hl (sym c.in_default.ensures) w.0 w.1 in
+    let told = barred_first m held places admission change p first last q hp hs hl (sym c.in_default.ensures) c.in-Err-check_welcome.barred c.in-Err-check_welcome.ensures in
     record {
-      answer = c.in-Err-check_welcome.ensures.value ∙ ap span_number (w.1 ∙ sym why);
-      after = kept m held places admission change p first last q w.0 why;
+      answer = ap answer_number (told held q refl refl);
+      alike = told;
+      after = kept m held places admission change p first last q c.in-Err-check_welcome.barred told;
       places = refl;
       admission = refl;
       layer = refl;
@@ -110,13 +112,13 @@ returns-then-is_none g c =
     let hp : p < 32 = omega arith in
     let hs : first ≤ last = omega arith in
     let hl : last < 100 = omega arith in
-    let bars = none_number (first_of (unwelcome m held places admission change p q) first (count first last)) c.in_default-check_welcome.ensures.value in
     let free : c.free-free.result ≡ places - taken m held = omega (arith, c.free-free.ensures) in
     let gone : left_after m held change p q (Some (places - taken m held)) first (count first last) ≡ None = ap (λ k. left_after m held change p q (Some k) first (count first last)) (sym free) ∙ (sym c.count_places.ensures ∙ none_from c.count_places.result c.if-is_none.ensures) in
-    let why = no_room m held places admission change p first last q hp hs hl (sym c.in_default.ensures) bars gone in
+    let told = by_room m held places admission change p first last q hp hs hl (sym c.in_default.ensures) c.in_default-check_welcome.ensures None gone in
     record {
-      answer = ap span_number (sym why);
-      after = kept m held places admission change p first last q NoFreePlace why;
+      answer = ap answer_number (told held q refl refl);
+      alike = told;
+      after = kept m held places admission change p first last q NoFreePlace told;
       places = refl;
       admission = refl;
       layer = refl;
@@ -141,8 +143,8 @@ apply_span-requires g c =
       provider = hp;
       order = hs;
       end = hl;
-      fits = λ t l h. fit_next m held change p q t (first_clear (unfit m held change p q) first (count first last) (sym c.in_default.ensures) t l (omega arith));
-      welcome = c.in_default-check_welcome.ensures.welcome;
+      fits = all_fit m held p first last q change (sym c.in_default.ensures);
+      welcome = welcome_from m held places admission change p first last q c.in_default-check_welcome.ensures;
       bound = omega (arith, c.free-free.ensures);
       room = ap is_some (ap (λ k. left_after m held change p q (Some k) first (count first last)) (sym free) ∙ sym c.count_places.ensures) ∙ c.if-is_none.ensures;
     }
@@ -161,11 +163,11 @@ returns g c =
     let hp : p < 32 = omega arith in
     let hs : first ≤ last = omega arith in
     let hl : last < 100 = omega arith in
-    let bars = none_number (first_of (unwelcome m held places admission change p q) first (count first last)) c.in_default-check_welcome.ensures.value in
-    let why = taken_whole m held places admission change p first last q hp hs hl (sym c.in_default.ensures) bars _ c.apply_span.ensures.left in
+    let told = by_room m held places admission change p first last q hp hs hl (sym c.in_default.ensures) c.in_default-check_welcome.ensures (Some _) c.apply_span.ensures.left in
     record {
-      answer = ap span_number (sym why);
-      after = c.apply_span.ensures.after ∙ done m held places admission change p first last q why;
+      answer = ap answer_number (told held q refl refl);
+      alike = told;
+      after = c.apply_span.ensures.after ∙ done m held places admission change p first last q told;
       places = c.apply_span.ensures.places;
       admission = c.apply_span.ensures.admission;
       layer = c.apply_span.ensures.layer;

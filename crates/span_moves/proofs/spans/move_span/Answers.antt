@@ -1,16 +1,18 @@
-use Rattle.std.proofs.Common.{◌≡◌, ℕ, ◌-◌, ◌≤◌, true, is_some, Some, sym, refl, ap, ◌∙◌, arith}
+use Rattle.std.proofs.Common.{◌≡◌, ◌+◌, ◌-◌, is_some, Some, None, sym, refl, ap, ◌∙◌, arith}
 use Rattle.quantity.specs.Measure.{is_zero}
 use Rattle.book.specs.Grid.{taken}
 use Rattle.span_moves.specs.declared.change.Change.TheVariants.{Lowering, Raising}
-use Rattle.span_moves.specs.declared.refusal.SpanRefusal.TheVariants.{NoFreePlace}
-use Rattle.span_moves.specs.Numbers.{span_number}
-use Rattle.span_moves.specs.Spans.{next, becomes, unfit, unadmitted, first_of, left_after, count}
+use Rattle.refusals.specs.declared.refusal.Refusal.TheVariants.{NoFreePlace}
+use Rattle.refusals.specs.Numbers.{answer_number}
+use Rattle.span_moves.specs.Spans.{becomes, barred_sum, left_after, count}
+use Rattle.span_moves.specs.Moves.{share}
 use Rattle.span_moves.proofs.Lefts.{left_under_some, left_nothing}
 use Rattle.span_moves.proofs.Alike.{some_from}
-use Rattle.span_moves.proofs.Firsts.{none_from, first_clear, fit_next}
-use Rattle.span_moves.proofs.Refusals.{none_number, some_number}
-use Rattle.span_moves.proofs.Moving.{still_takes, still_welcome, same_left, moved_is, passed}
-use Rattle.span_moves.proofs.MoveWhole.{kept, done, misshapen, no_remainder, no_sum, barred, no_room, taken_whole}
+use Rattle.span_moves.proofs.Firsts.{none_from}
+use Rattle.span_moves.proofs.Moving.{still_takes, still_welcome, same_left, moved_is}
+use Rattle.span_moves.proofs.Shares.{all_fit, move_passes}
+use Rattle.span_moves.proofs.Whole.{welcome_from}
+use Rattle.span_moves.proofs.MoveWhole.{kept, done, misshapen, no_remainder, no_sum, barred, by_room}
 use Rattle.span_moves.proofs.spans.move_span.Goals as goal
 
 pub returns-in-Err : goal.returns-in-Err
@@ -24,10 +26,11 @@ returns-in-Err g c =
     let first = c.args.first in
     let last = c.args.last in
     let q = c.args.quantity in
-    let why = misshapen m held places admission giver taker first last q c.in-Err.shape (sym c.in-Err.ensures.value) in
+    let told = misshapen m held places admission giver taker first last q c.in-Err.shape (sym c.in-Err.ensures.value) in
     record {
-      answer = ap span_number (sym why);
-      after = kept m held places admission giver taker first last q c.in-Err.shape why;
+      answer = ap answer_number (told held q refl refl);
+      alike = told;
+      after = kept m held places admission giver taker first last q c.in-Err.shape told;
       passed = tt;
       places = refl;
       admission = refl;
@@ -45,10 +48,11 @@ returns-in-Err-check_fits g c =
     let first = c.args.first in
     let last = c.args.last in
     let q = c.args.quantity in
-    let why = no_remainder m held places admission giver taker first last q (sym c.in_default.ensures.value) c.in-Err-check_fits.misfit (sym c.in-Err-check_fits.ensures) in
+    let told = no_remainder m held places admission giver taker first last q (sym c.in_default.ensures.value) c.in-Err-check_fits.misfit (sym c.in-Err-check_fits.ensures) in
     record {
-      answer = ap span_number (sym why);
-      after = kept m held places admission giver taker first last q c.in-Err-check_fits.misfit why;
+      answer = ap answer_number (told held q refl refl);
+      alike = told;
+      after = kept m held places admission giver taker first last q c.in-Err-check_fits.misfit told;
       passed = tt;
       places = refl;
       admission = refl;
@@ -66,10 +70,11 @@ returns-in-Err-check_fits-2 g c =
     let first = c.args.first in
     let last = c.args.last in
     let q = c.args.quantity in
-    let why = no_sum m held places admission giver taker first last q (sym c.in_default.ensures.value) (sym c.in_default-check_fits.ensures) c.in-Err-check_fits-2.misfit (sym c.in-Err-check_fits-2.ensures) in
+    let told = no_sum m held places admission giver taker first last q (sym c.in_default.ensures.value) (sym c.in_default-check_fits.ensures) c.in-Err-check_fits-2.misfit (sym c.in-Err-check_fits-2.ensures) in
     record {
-      answer = ap span_number (sym why);
-      after = kept m held places admission giver taker first last q c.in-Err-check_fits-2.misfit why;
+      answer = ap answer_number (told held q refl refl);
+      alike = told;
+      after = kept m held places admission giver taker first last q c.in-Err-check_fits-2.misfit told;
       passed = tt;
       places = refl;
       admission = refl;
@@ -87,11 +92,11 @@ returns-in-Err-check_admitted g c =
     let first = c.args.first in
     let last = c.args.last in
     let q = c.args.quantity in
-    let w = some_number c.in-Err-check_admitted.barred (first_of (unadmitted m held admission taker q) first (count first last)) c.in-Err-check_admitted.ensures.value in
-    let why = barred m held places admission giver taker first last q (sym c.in_default.ensures.value) (sym c.in_default-check_fits.ensures) (sym c.in_default-check_fits-2.ensures) w.0 w.1 in
+    let told = barred m held places admission giver taker first last q (sym c.in_default.ensures.value) (sym c.in_default-check_fits.ensures) (sym c.in_default-check_fits-2.ensures) c.in-Err-check_admitted.barred c.in-Err-check_admitted.ensures in
     record {
-      answer = c.in-Err-check_admitted.ensures.value ∙ ap span_number (w.1 ∙ sym why);
-      after = kept m held places admission giver taker first last q w.0 why;
+      answer = ap answer_number (told held q refl refl);
+      alike = told;
+      after = kept m held places admission giver taker first last q c.in-Err-check_admitted.barred told;
       passed = tt;
       places = refl;
       admission = refl;
@@ -109,13 +114,13 @@ returns-in_default-count_places g c =
     let first = c.args.first in
     let last = c.args.last in
     let q = c.args.quantity in
-    let bars = none_number (first_of (unadmitted m held admission taker q) first (count first last)) c.in_default-check_admitted.ensures.value in
     let free : c.free-free.result ≡ places - taken m held = omega (arith, c.free-free.ensures) in
     let first-left : left_after m held Lowering giver q (Some (places - taken m held)) first (count first last) ≡ c.count_places.result = ap (λ k. left_after m held Lowering giver q (Some k) first (count first last)) (sym free) ∙ sym c.count_places.ensures in
-    let why = no_room m held places admission giver taker first last q (sym c.in_default.ensures.value) (sym c.in_default-check_fits.ensures) (sym c.in_default-check_fits-2.ensures) bars (ap (λ o. left_after m held Raising taker q o first (count first last)) (first-left ∙ c.in_default-count_places.is) ∙ left_nothing (λ t. is_zero m (held taker t)) (λ t. is_zero m (becomes m held Raising taker q t)) first (count first last)) in
+    let told = by_room m held places admission giver taker first last q (sym c.in_default.ensures.value) (sym c.in_default-check_fits.ensures) (sym c.in_default-check_fits-2.ensures) c.in_default-check_admitted.ensures None (ap (λ o. left_after m held Raising taker q o first (count first last)) (first-left ∙ c.in_default-count_places.is) ∙ left_nothing (λ t. is_zero m (held taker t)) (λ t. is_zero m (becomes m held Raising taker q t)) first (count first last)) in
     record {
-      answer = ap span_number (sym why);
-      after = kept m held places admission giver taker first last q NoFreePlace why;
+      answer = ap answer_number (told held q refl refl);
+      alike = told;
+      after = kept m held places admission giver taker first last q NoFreePlace told;
       passed = tt;
       places = refl;
       admission = refl;
@@ -147,14 +152,14 @@ returns-then-is_none g c =
     let first = c.args.first in
     let last = c.args.last in
     let q = c.args.quantity in
-    let bars = none_number (first_of (unadmitted m held admission taker q) first (count first last)) c.in_default-check_admitted.ensures.value in
     let free : c.free-free.result ≡ places - taken m held = omega (arith, c.free-free.ensures) in
     let first-left : left_after m held Lowering giver q (Some (places - taken m held)) first (count first last) ≡ c.count_places.result = ap (λ k. left_after m held Lowering giver q (Some k) first (count first last)) (sym free) ∙ sym c.count_places.ensures in
     let both_left : left_after m held Raising taker q (left_after m held Lowering giver q (Some (places - taken m held)) first (count first last)) first (count first last) ≡ c.count_places-2.result = ap (λ o. left_after m held Raising taker q o first (count first last)) (first-left ∙ c.in-Some.is) ∙ sym c.count_places-2.ensures in
-    let why = no_room m held places admission giver taker first last q (sym c.in_default.ensures.value) (sym c.in_default-check_fits.ensures) (sym c.in_default-check_fits-2.ensures) bars (both_left ∙ none_from c.count_places-2.result c.if-is_none.ensures) in
+    let told = by_room m held places admission giver taker first last q (sym c.in_default.ensures.value) (sym c.in_default-check_fits.ensures) (sym c.in_default-check_fits-2.ensures) c.in_default-check_admitted.ensures None (both_left ∙ none_from c.count_places-2.result c.if-is_none.ensures) in
     record {
-      answer = ap span_number (sym why);
-      after = kept m held places admission giver taker first last q NoFreePlace why;
+      answer = ap answer_number (told held q refl refl);
+      alike = told;
+      after = kept m held places admission giver taker first last q NoFreePlace told;
       passed = tt;
       places = refl;
       admission = refl;
@@ -172,8 +177,6 @@ apply_span-requires g c =
     let first = c.args.first in
     let last = c.args.last in
     let q = c.args.quantity in
-    let gives : (t : ℕ) → first ≤ t → t ≤ last → is_some (next m Lowering (held giver t) q) ≡ true = λ t l h. fit_next m held Lowering giver q t (first_clear (unfit m held Lowering giver q) first (count first last) (sym c.in_default-check_fits.ensures) t l (omega arith)) in
-    let takes : (t : ℕ) → first ≤ t → t ≤ last → is_some (next m Raising (held taker t) q) ≡ true = λ t l h. fit_next m held Raising taker q t (first_clear (unfit m held Raising taker q) first (count first last) (sym c.in_default-check_fits-2.ensures) t l (omega arith)) in
     let sh = c.in_default.ensures.shape in
     let free : c.free-free.result ≡ places - taken m held = omega (arith, c.free-free.ensures) in
     let first-left : left_after m held Lowering giver q (Some (places - taken m held)) first (count first last) ≡ c.count_places.result = ap (λ k. left_after m held Lowering giver q (Some k) first (count first last)) (sym free) ∙ sym c.count_places.ensures in
@@ -181,7 +184,7 @@ apply_span-requires g c =
       provider = sh.0;
       order = sh.2;
       end = sh.3;
-      fits = gives;
+      fits = all_fit m held giver first last q Lowering (sym c.in_default-check_fits.ensures);
       welcome = λ t l h. tt;
       bound = omega (arith, c.free-free.ensures);
       room = ap is_some (first-left ∙ c.in-Some.is);
@@ -198,8 +201,6 @@ apply_span-requires-2 g c =
     let first = c.args.first in
     let last = c.args.last in
     let q = c.args.quantity in
-    let gives : (t : ℕ) → first ≤ t → t ≤ last → is_some (next m Lowering (held giver t) q) ≡ true = λ t l h. fit_next m held Lowering giver q t (first_clear (unfit m held Lowering giver q) first (count first last) (sym c.in_default-check_fits.ensures) t l (omega arith)) in
-    let takes : (t : ℕ) → first ≤ t → t ≤ last → is_some (next m Raising (held taker t) q) ≡ true = λ t l h. fit_next m held Raising taker q t (first_clear (unfit m held Raising taker q) first (count first last) (sym c.in_default-check_fits-2.ensures) t l (omega arith)) in
     let sh = c.in_default.ensures.shape in
     let free : c.free-free.result ≡ places - taken m held = omega (arith, c.free-free.ensures) in
     let first-left : left_after m held Lowering giver q (Some (places - taken m held)) first (count first last) ≡ c.count_places.result = ap (λ k. left_after m held Lowering giver q (Some k) first (count first last)) (sym free) ∙ sym c.count_places.ensures in
@@ -210,13 +211,13 @@ apply_span-requires-2 g c =
       provider = sh.1;
       order = sh.2;
       end = sh.3;
-      fits = λ t l h. still_takes m held held1 giver taker q first last sh.4 low gives takes t l h;
-      welcome = λ t l h s other e k. ap (λ a. a taker t other) c.apply_span.ensures.admission ∙ still_welcome m held held1 giver taker q first last sh.4 low gives takes t l h admission (c.in_default-check_admitted.ensures.alike t l h) s other e k;
+      fits = λ t l h. still_takes m held held1 giver taker q first (last + 1) sh.4 low t (all_fit m held taker first last q Raising (sym c.in_default-check_fits-2.ensures) t l h);
+      welcome = λ t l h a e. ap (λ adm. barred_sum (adm taker t) taker t (m.joined a q)) c.apply_span.ensures.admission ∙ still_welcome m held held1 giver taker q first (last + 1) sh.4 low places admission t (welcome_from m held places admission Raising taker first last q c.in_default-check_admitted.ensures t l h) a e;
       bound = omega (arith, c.apply_span.ensures.bound, c.apply_span.ensures.places);
       room =
           ap is_some
           (ap (λ n. left_after m held1 Raising taker q (Some (n - taken m held1)) first (count first last)) c.apply_span.ensures.places
-          ∙ (same_left m held held1 giver taker q first last sh.4 low gives takes (Some (places - taken m held1))
+          ∙ (same_left m held held1 giver taker q first (last + 1) sh.4 low (Some (places - taken m held1)) (count first last)
           ∙ (ap (λ o. left_after m held Raising taker q o first (count first last)) (sym c.apply_span.ensures.left) ∙ both_left)))
           ∙ c.if-is_none.ensures;
     }
@@ -232,22 +233,20 @@ returns g c =
     let first = c.args.first in
     let last = c.args.last in
     let q = c.args.quantity in
-    let gives : (t : ℕ) → first ≤ t → t ≤ last → is_some (next m Lowering (held giver t) q) ≡ true = λ t l h. fit_next m held Lowering giver q t (first_clear (unfit m held Lowering giver q) first (count first last) (sym c.in_default-check_fits.ensures) t l (omega arith)) in
-    let takes : (t : ℕ) → first ≤ t → t ≤ last → is_some (next m Raising (held taker t) q) ≡ true = λ t l h. fit_next m held Raising taker q t (first_clear (unfit m held Raising taker q) first (count first last) (sym c.in_default-check_fits-2.ensures) t l (omega arith)) in
     let sh = c.in_default.ensures.shape in
-    let bars = none_number (first_of (unadmitted m held admission taker q) first (count first last)) c.in_default-check_admitted.ensures.value in
     let free : c.free-free.result ≡ places - taken m held = omega (arith, c.free-free.ensures) in
     let first-left : left_after m held Lowering giver q (Some (places - taken m held)) first (count first last) ≡ c.count_places.result = ap (λ k. left_after m held Lowering giver q (Some k) first (count first last)) (sym free) ∙ sym c.count_places.ensures in
     let both_left : left_after m held Raising taker q (left_after m held Lowering giver q (Some (places - taken m held)) first (count first last)) first (count first last) ≡ c.count_places-2.result = ap (λ o. left_after m held Raising taker q o first (count first last)) (first-left ∙ c.in-Some.is) ∙ sym c.count_places-2.ensures in
     let held1 = g.B.Book.holdings c.apply_span.new.book in
     let low = c.apply_span.ensures.after in
     let some = some_from c.count_places-2.result c.if-is_none.ensures in
-    let why = taken_whole m held places admission giver taker first last q (sym c.in_default.ensures.value) (sym c.in_default-check_fits.ensures) (sym c.in_default-check_fits-2.ensures) bars some.0 (both_left ∙ some.1) in
-    let now = c.apply_span-2.ensures.after ∙ moved_is m held held1 giver taker q first last sh.4 low gives takes places admission in
+    let told = by_room m held places admission giver taker first last q (sym c.in_default.ensures.value) (sym c.in_default-check_fits.ensures) (sym c.in_default-check_fits-2.ensures) c.in_default-check_admitted.ensures (Some some.0) (both_left ∙ some.1) in
+    let now = c.apply_span-2.ensures.after ∙ moved_is m held held1 giver taker q first (last + 1) sh.4 low in
     record {
-      answer = ap span_number (sym why);
-      after = now ∙ done m held places admission giver taker first last q why;
-      passed = passed m held held1 giver taker q first last sh.4 low gives takes places admission _ now;
+      answer = ap answer_number (told held q refl refl);
+      alike = told;
+      after = now ∙ done m held places admission giver taker first last q told;
+      passed = λ x u. ap (λ h. m.plus (share m giver first last (m.amount q) x u) (h x u)) now ∙ move_passes m held places admission giver taker first last q (sym (told held q refl refl)) x u;
       places = c.apply_span-2.ensures.places ∙ c.apply_span.ensures.places;
       admission = c.apply_span-2.ensures.admission ∙ c.apply_span.ensures.admission;
       layer = c.apply_span-2.ensures.layer ∙ c.apply_span.ensures.layer;

@@ -1,8 +1,7 @@
-use Rattle.std.proofs.Common.{◌≡◌, true, false, sym, ap}
+use Rattle.std.proofs.Common.{◌≡◌, true, false, sym, ap, None}
 use Rattle.std.proofs.lemmas.Bool.{cond-false}
 use Rattle.book.specs.Grid.{in_range}
 use Rattle.book.specs.Numbers.{admission_number}
-use Rattle.book.specs.declared.answers.Admission.TheVariants.{Yes}
 use Rattle.limit_layer.specs.Limits.{limited, next_layer}
 use Rattle.limit_layer.proofs.Layers.{tenths_alike, limited_alike, limited_no, limited_own}
 use Rattle.limit_layer.proofs.layer_book.LimitLayerBook.admits.Goals as goal
@@ -17,7 +16,7 @@ returns-then-not-in_range g c =
     let layer = next_layer (g.B.Book.layer_number s.below) in
     let out : in_range p t ≡ false = sym c.if-not-in_range.ensures in
     record {
-      value = sym (ap admission_number (cond-false (in_range p t) (limited s.limits layer (g.B.Book.admission s.below) g.B.Q.ReserveQuantity.tenths_in p t q) Yes out));
+      value = sym (ap admission_number (cond-false (in_range p t) (limited s.limits layer (g.B.Book.admission s.below) g.B.Q.ReserveQuantity.tenths_in p t q) None out));
       alike = λ other e. limited_alike s.limits layer (g.B.Book.admission s.below) g.B.Q.ReserveQuantity.tenths_in p t q other (c.admits-below.ensures.alike other e) (tenths_alike m g.B.Q.ReserveQuantity.tenths_in q c.zero.result c.zero.ensures c.tenths_add_up.ensures other e);
     }
 

@@ -3,17 +3,17 @@ use Rattle.std.proofs.Common.{◌≡◌, ℕ, ◌+◌, ◌≤◌, Bool, true, fa
 use Rattle.std.proofs.lemmas.Bool.{cond-true, eq-eqb}
 use Rattle.quantity.specs.Measure.{Measure}
 use Rattle.book.specs.Grid.{Grid, amounts}
-use Rattle.book.specs.declared.answers.Admission.{Admission}
+use Rattle.book.specs.Admissions.{Admission}
 use Rattle.refusals.specs.declared.refusal.Refusal.TheVariants.{SameProvider}
 use Rattle.refusals.proofs.Firsts.{none_both}
-use Rattle.span_changes.specs.declared.change.Change.{Change}
-use Rattle.span_changes.specs.declared.change.Change.TheVariants.{Lowering, Raising}
-use Rattle.span_changes.specs.Spans.{next, first_of, crowding, count, no_provider, no_span, one_provider, becomes, unfit, unadmitted, spanned, left_after}
-use Rattle.span_changes.specs.Moves.{unwelcome, free_places, span_refusal, move_refusal, moved_holdings, moved, share, Passed}
-use Rattle.span_changes.proofs.Alike.{some_from, next_is}
-use Rattle.span_changes.proofs.Firsts.{first_clear, fit_next}
-use Rattle.span_changes.proofs.Spanned.{within, within_parts}
-use Rattle.span_changes.proofs.Moving.{not_both}
+use Rattle.span_moves.specs.declared.change.Change.{Change}
+use Rattle.span_moves.specs.declared.change.Change.TheVariants.{Lowering, Raising}
+use Rattle.span_moves.specs.Spans.{next, first_of, crowding, count, no_provider, no_span, one_provider, becomes, unfit, unadmitted, spanned, left_after}
+use Rattle.span_moves.specs.Moves.{unwelcome, free_places, span_refusal, move_refusal, moved_holdings, moved, share, Passed}
+use Rattle.span_moves.proofs.Alike.{some_from, next_is}
+use Rattle.span_moves.proofs.Firsts.{first_clear, fit_next}
+use Rattle.span_moves.proofs.Spanned.{within, within_parts}
+use Rattle.span_moves.proofs.Moving.{not_both}
 
 pub moved_amounts : {Q R : Type 0} (m : Measure Q R) (held : Grid Q) (giver taker : ℕ) (q : Q) (lo hi : ℕ) → amounts m (moved_holdings m held giver taker q lo hi) ≡ moved m held giver taker q lo hi
 unfolding moved

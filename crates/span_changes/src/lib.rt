@@ -1,6 +1,0 @@
-#![tactic(auto)]
-
-mod apply;
-mod change;
-mod checks;
-pub mod spans;
