@@ -12,8 +12,8 @@ use Rattle.span_moves.proofs.Firsts.{clear_more, first_hit, first_miss}
 use Rattle.span_moves.proofs.checks.check_admitted.Goals as goal
 use Rattle.span_moves.proofs.checks.check_admitted.Goals.{in-Some+in_default-admits, in_default}
 
-pub returns-in-No : goal.returns-in-No
-returns-in-No g c other r e f =
+pub returns-in-Err : goal.returns-in-Err
+returns-in-Err g c other r e f =
     let m = g.B.Q.Quantity.measure in
     let held = g.B.Book.holdings c.args.book.now in
     let admission = g.B.Book.admission c.args.book.now in
@@ -21,10 +21,10 @@ returns-in-No g c other r e f =
     let q = c.args.quantity in
     let t = c.loop-quarter.quarter in
     let sum = c.in-Some.sum in
-    let cause = c.in-No.cause in
+    let cause = c.in-Err.cause in
     let inside = range_from p t (omega arith) (omega arith) in
     let joined : m.joined (held p t) q ≡ Some sum = sym (c.join.ensures ∙ ap (λ x. m.joined x q) (c.holding.ensures ∙ held_inside m held p t inside)) ∙ c.in-Some.is in
-    let no : Some cause ≡ admission p t sum = admission_once (Some cause) (admission p t sum) (c.in-No.ensures.value ∙ ap admission_number (cond-true (in_range p t) (admission p t sum) None inside)) in
+    let no : Some cause ≡ admission p t sum = admission_once (Some cause) (admission p t sum) (c.in-Err.ensures.value ∙ ap admission_number (cond-true (in_range p t) (admission p t sum) None inside)) in
     let here = barred_row m held other p q r (rows m held other e p) f admission t (Some sum) joined c.admits.ensures.alike ∙ ap (barred_at p t) (sym no) in
     sym (first_hit (unadmitted m other admission p r) c.args.first (count c.args.first c.args.last) t (omega arith) (omega arith) (c.loop-quarter.invariant other r e f) (NotAdmitted p t cause) here)
 
