@@ -2,4 +2,5 @@
 
 pub mod interface;
 pub mod list;
+pub mod slots;
 pub mod stored;

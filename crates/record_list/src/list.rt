@@ -1,4 +1,5 @@
 use crate::interface::Records;
+use crate::slots::fill;
 
 /// A list in lent memory: its contents are the first `used` slots, or all where there are fewer.
 // The slice with `used` beside it stays: the memory is lent by callers who have no heap, and is handed back to them.
@@ -36,10 +37,7 @@ impl<'a, E: Copy> RecordList<'a, E> {
         ensures slots { result.slots.now ≡ contents result }
         ensures lender { result.slots.ghost_name ≡ slots.entry.ghost_name }
     {
-        // A loop, since `fill` asks for a clone that cannot fail, which `Copy` does not promise.
-        for slot in slots.iter_mut() {
-            *slot = e;
-        }
+        fill(slots, e);
         let all = slots.len();
         RecordList { slots, used: all }
     }
