@@ -9,8 +9,8 @@ use Rattle.book.proofs.Counts.{total_alike, taken_is}
 use Rattle.refusals.specs.declared.refusal.Refusal.{Refusal}
 use Rattle.span_moves.specs.declared.change.Change.{Change}
 use Rattle.span_moves.specs.declared.change.Change.TheVariants.{Lowering, Raising}
-use Rattle.span_moves.specs.Spans.{next, misfit, unless_some, first_of, left, left_after, becomes, unfit, barred_at, barred_sum, unadmitted}
-use Rattle.span_moves.specs.Moves.{free_places}
+use Rattle.span_moves.specs.Spans.{next, misfit, unless_some, first_of, left, left_after, becomes, unfit, asked, barred_at, barred_sum}
+use Rattle.span_moves.specs.Moves.{unwelcome, free_places}
 
 pub some_from : {A : Type 0} (o : Option A) → is_some o ≡ true → (x : A) × (o ≡ Some x)
 some_from None e = absurd (true≢false (sym e))
@@ -86,6 +86,15 @@ module _ {Q R : Type 0} (m : Measure Q R) where
   value_same a b e (Some c) None s = absurd s
   value_same a b e (Some c) (Some d) s = s
 
+-- a change is unwelcome where what it makes of a holding is barred
+pub unwelcome_is : {Q R : Type 0} (m : Measure Q R) (held : Grid Q) (places : ℕ) (admission : ℕ → ℕ → Q → Admission) (change : Change) (p : ℕ) (q : Q) (t : ℕ) → unwelcome m held places admission change p q t ≡ barred_sum (asked admission change p t) p t (next m change (held p t) q)
+unwelcome_is m held places admission Raising p q t = refl
+unwelcome_is {Q = Q} m held places admission Lowering p q t = by (m.remaining (held p t) q)
+  where
+    by : (o : Option Q) → None ≡ barred_sum (asked admission Lowering p t) p t o
+    by None = refl
+    by (Some c) = refl
+
 -- two rows of holdings, and two quantities, of the same amounts
 module _ {Q R : Type 0} (m : Measure Q R) (held other : Grid Q) (p : ℕ) (q r : Q) (row : (t : ℕ) → m.amount (other p t) ≡ m.amount (held p t)) (f : m.amount r ≡ m.amount q) where
   both_next : (change : Change) (t : ℕ) → Same m (next m change (other p t) r) (next m change (held p t) q)
@@ -102,20 +111,20 @@ module _ {Q R : Type 0} (m : Measure Q R) (held other : Grid Q) (p : ℕ) (q r :
       ap (λ was. left was (λ t. is_zero m (becomes m other change p r t)) free lo n) (fun_ext (λ t. zero_alike m (other p t) (held p t) (row t)))
       ∙ ap (λ will. left (λ t. is_zero m (held p t)) will free lo n) (fun_ext (λ t. zero_alike m (becomes m other change p r t) (becomes m held change p q t) (became_row change t)))
 
-  -- where all values of the sum are admitted alike, so are the raises
-  module _ (admission : ℕ → ℕ → Q → Admission) (t : ℕ) where
+  -- where all values of what a holding becomes are admitted alike, they are barred alike
+  module _ (places : ℕ) (admission : ℕ → ℕ → Q → Admission) (change : Change) (t : ℕ) where
     abbrev Fair : Option Q → Type 0
     Fair None = Unit {0}
-    Fair (Some s) = (v : Q) → m.amount v ≡ m.amount s → admission p t v ≡ admission p t s
+    Fair (Some s) = (v : Q) → m.amount v ≡ m.amount s → asked admission change p t v ≡ asked admission change p t s
 
-    barred_same : (o sum : Option Q) → Same m o sum → Fair sum → barred_sum (admission p t) p t o ≡ barred_sum (admission p t) p t sum
+    barred_same : (o sum : Option Q) → Same m o sum → Fair sum → barred_sum (asked admission change p t) p t o ≡ barred_sum (asked admission change p t) p t sum
     barred_same None None s h = refl
     barred_same None (Some d) s h = absurd s
     barred_same (Some c) None s h = absurd s
     barred_same (Some c) (Some d) s h = ap (barred_at p t) (h c s)
 
-    pub barred_row : (sum : Option Q) → m.joined (held p t) q ≡ sum → Fair sum → unadmitted m other admission p r t ≡ barred_sum (admission p t) p t sum
-    barred_row sum e h = barred_same (m.joined (other p t) r) sum (subst (Same m (m.joined (other p t) r)) e (both_next Raising t)) h
+    pub unwelcome_alike : (sum : Option Q) → next m change (held p t) q ≡ sum → Fair sum → unwelcome m other places admission change p r t ≡ barred_sum (asked admission change p t) p t sum
+    unwelcome_alike sum e h = unwelcome_is m other places admission change p r t ∙ barred_same (next m change (other p t) r) sum (subst (Same m (next m change (other p t) r)) e (both_next change t)) h
 
 -- holdings of the same amounts
 module _ {Q R : Type 0} (m : Measure Q R) (held other : Grid Q) (e : amounts m other ≡ amounts m held) where

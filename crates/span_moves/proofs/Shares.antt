@@ -1,17 +1,16 @@
 -- What a move or a raise that is not refused passes on, in amounts.
-use Rattle.std.proofs.Common.{◌≡◌, ℕ, ◌+◌, ◌≤◌, Bool, true, false, cond, eqb, [], ◌∷◌, is_some, Some, None, unwrap_or, sym, refl, ap, ◌∙◌, arith}
+use Rattle.std.proofs.Common.{◌≡◌, ℕ, ◌+◌, ◌≤◌, Bool, true, false, cond, eqb, [], ◌∷◌, Some, None, unwrap_or, sym, refl, ap, ◌∙◌, arith}
 use Rattle.std.proofs.lemmas.Bool.{cond-true, eq-eqb}
 use Rattle.quantity.specs.Measure.{Measure}
 use Rattle.book.specs.Grid.{Grid, amounts}
 use Rattle.book.specs.Admissions.{Admission}
 use Rattle.refusals.specs.declared.refusal.Refusal.TheVariants.{SameProvider}
 use Rattle.refusals.proofs.Firsts.{none_both}
-use Rattle.span_moves.specs.declared.change.Change.{Change}
 use Rattle.span_moves.specs.declared.change.Change.TheVariants.{Lowering, Raising}
 use Rattle.span_moves.specs.Spans.{next, first_of, crowding, count, no_provider, no_span, one_provider, becomes, unfit, unadmitted, spanned, left_after}
 use Rattle.span_moves.specs.Moves.{unwelcome, free_places, span_refusal, move_refusal, moved_holdings, moved, share, Passed}
 use Rattle.span_moves.proofs.Alike.{some_from, next_is}
-use Rattle.span_moves.proofs.Firsts.{first_clear, fit_next}
+use Rattle.span_moves.proofs.Firsts.{all_fit}
 use Rattle.span_moves.proofs.Spanned.{within, within_parts}
 use Rattle.span_moves.proofs.Moving.{not_both}
 
@@ -26,19 +25,15 @@ two_providers giver taker e h =
     omega arith
 
 module _ {Q R : Type 0} (m : Measure Q R) (held : Grid Q) (p first last : ℕ) (q : Q) where
-  -- every holding of the span fits the change
-  pub all_fit : (change : Change) → first_of (unfit m held change p q) first (count first last) ≡ None → (t : ℕ) → first ≤ t → t ≤ last → is_some (next m change (held p t) q) ≡ true
-  all_fit change e t l h = fit_next m held change p q t (first_clear (unfit m held change p q) first (count first last) e t l (omega arith))
-
   -- what a lowering takes, and a raise adds
   lost : first_of (unfit m held Lowering p q) first (count first last) ≡ None → (u : ℕ) → first ≤ u → u ≤ last → m.plus (m.amount q) (m.amount (becomes m held Lowering p q u)) ≡ m.amount (held p u)
   lost e u l h =
-      let d = some_from (next m Lowering (held p u) q) (all_fit Lowering e u l h) in
+      let d = some_from (next m Lowering (held p u) q) (all_fit m held Lowering p first last q e u l h) in
       ap (λ o. m.plus (m.amount q) (m.amount (unwrap_or o (held p u)))) d.1 ∙ next_is m Lowering (held p u) q d.0 d.1
 
   won : first_of (unfit m held Raising p q) first (count first last) ≡ None → (u : ℕ) → first ≤ u → u ≤ last → m.amount (becomes m held Raising p q u) ≡ m.plus (m.amount q) (m.amount (held p u))
   won e u l h =
-      let d = some_from (next m Raising (held p u) q) (all_fit Raising e u l h) in
+      let d = some_from (next m Raising (held p u) q) (all_fit m held Raising p first last q e u l h) in
       ap (λ o. m.amount (unwrap_or o (held p u))) d.1 ∙ (next_is m Raising (held p u) q d.0 d.1 ∙ m.commutes (m.amount (held p u)) (m.amount q))
 
   raised_at : first_of (unfit m held Raising p q) first (count first last) ≡ None → (x u : ℕ) (b : Bool) → within p first (last + 1) x u ≡ b → cond b (m.amount (becomes m held Raising p q u)) (m.amount (held x u)) ≡ m.plus (cond b (m.amount q) m.none) (m.amount (held x u))
