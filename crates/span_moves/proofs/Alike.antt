@@ -17,13 +17,12 @@ some_from None e = absurd (true≢false (sym e))
 some_from (Some x) e = (x, refl)
 
 bools : (x y : Bool) → (x ≡ true → y ≡ true) → (y ≡ true → x ≡ true) → x ≡ y
-bools true y f g = sym (f refl)
-bools false true f g = g refl
-bools false false f g = refl
+bools true y f g = grind arith
+bools false y f g = grind arith
 
 module _ {Q R : Type 0} (m : Measure Q R) where
   pub zero_alike : (a b : Q) → m.amount a ≡ m.amount b → is_zero m a ≡ is_zero m b
-  zero_alike a b e = bools (is_zero m a) (is_zero m b) (λ h. m.same_alike b m.nothing (sym e ∙ m.alike_same a m.nothing h)) (λ h. m.same_alike a m.nothing (e ∙ m.alike_same b m.nothing h))
+  zero_alike a b e = bools (is_zero m a) (is_zero m b) (grind (arith, m.same_alike b m.nothing, m.alike_same a m.nothing)) (grind (arith, m.same_alike a m.nothing, m.alike_same b m.nothing))
 
   pub taken_alike : (g h : Grid Q) → amounts m g ≡ amounts m h → taken m g ≡ taken m h
   unfolding amounts

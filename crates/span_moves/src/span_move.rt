@@ -5,7 +5,6 @@ ghost use Rattle.refusals.specs.First.{first_some};
 ghost use Rattle.span_moves.specs.Spans.{Alike, no_provider, no_span, one_provider};
 ghost use Rattle.span_moves.specs.Moves.{moved, move_checks};
 ghost use Rattle.span_moves.specs.Ready.{ReadyToMove};
-ghost use Rattle.span_moves.specs.declared.change.Change.TheVariants.{Raising, Lowering};
 
 use crate::change::Change;
 use crate::span::{Provider, Span};
@@ -49,23 +48,13 @@ impl<Q: Quantity> SpanMove<Q> {
         })
     }
 
-    fn lowering(&self) -> SpanChange<Q>
-        ensures { result ≡ record { change = Lowering; provider = self.now.giver; span = self.now.span; quantity = self.now.quantity } }
+    // The change that this move is for the giver or the taker.
+    fn change(&self, change: Change, provider: Provider) -> SpanChange<Q>
+        ensures { result ≡ record { change = change; provider = provider; span = self.now.span; quantity = self.now.quantity } }
     {
         SpanChange {
-            change: Change::Lowering,
-            provider: self.giver,
-            span: self.span,
-            quantity: self.quantity,
-        }
-    }
-
-    fn raising(&self) -> SpanChange<Q>
-        ensures { result ≡ record { change = Raising; provider = self.now.taker; span = self.now.span; quantity = self.now.quantity } }
-    {
-        SpanChange {
-            change: Change::Raising,
-            provider: self.taker,
+            change,
+            provider,
             span: self.span,
             quantity: self.quantity,
         }
@@ -76,8 +65,8 @@ impl<Q: Quantity> SpanMove<Q> {
         ensures alike { Alike Q.Quantity.measure (B.Book.holdings book.now) self.now.quantity (λ other q. move_checks Q.Quantity.measure other (B.Book.places book.now) (B.Book.admission book.now) self.now.giver.number self.now.taker.number self.now.span.first self.now.span.last q) (result_err result) }
         ensures ready { OnOk result (ReadyToMove Q.Quantity.measure (B.Book.holdings book.now) (B.Book.places book.now) (B.Book.admission book.now) self.now.giver.number self.now.taker.number self.now.span.first self.now.span.last self.now.quantity) }
     {
-        let lowering = self.lowering();
-        let raising = self.raising();
+        let lowering = self.change(Change::Lowering, self.giver);
+        let raising = self.change(Change::Raising, self.taker);
         lowering.check_fits(book)?;
         raising.check_fits(book)?;
         raising.check_admitted(book)?;
@@ -99,7 +88,7 @@ impl<Q: Quantity> SpanMove<Q> {
         ensures admission { B.Book.admission book.new ≡ B.Book.admission book.old }
         ensures layer { B.Book.layer_number book.new ≡ B.Book.layer_number book.old }
     {
-        self.lowering().apply(book);
-        self.raising().apply(book);
+        self.change(Change::Lowering, self.giver).apply(book);
+        self.change(Change::Raising, self.taker).apply(book);
     }
 }
