@@ -16,13 +16,9 @@ pub some_from : {A : Type 0} (o : Option A) → is_some o ≡ true → (x : A) �
 some_from None e = absurd (true≢false (sym e))
 some_from (Some x) e = (x, refl)
 
-bools : (x y : Bool) → (x ≡ true → y ≡ true) → (y ≡ true → x ≡ true) → x ≡ y
-bools true y f g = grind arith
-bools false y f g = grind arith
-
 module _ {Q R : Type 0} (m : Measure Q R) where
   pub zero_alike : (a b : Q) → m.amount a ≡ m.amount b → is_zero m a ≡ is_zero m b
-  zero_alike a b e = bools (is_zero m a) (is_zero m b) (grind (arith, m.same_alike b m.nothing, m.alike_same a m.nothing)) (grind (arith, m.same_alike a m.nothing, m.alike_same b m.nothing))
+  zero_alike a b e = grind (arith, m.same_alike a m.nothing, m.alike_same a m.nothing, m.same_alike b m.nothing, m.alike_same b m.nothing)
 
   pub taken_alike : (g h : Grid Q) → amounts m g ≡ amounts m h → taken m g ≡ taken m h
   unfolding amounts
@@ -56,7 +52,7 @@ module _ {Q R : Type 0} (m : Measure Q R) where
     next_same Raising = joined_same (m.joined a q) (m.joined b r) (m.joins a q) (m.joins b r)
 
   same_some : (o p : Option Q) (d : Q) → Same o p → p ≡ Some d → (c : Q) × (o ≡ Some c) × (m.amount c ≡ m.amount d)
-  same_some None None d s h = absurd (let z : ◌≡◌ {A = ℕ} 0 1 = cc in omega arith)
+  same_some None None d s h = absurd (grind arith)
   same_some None (Some x) d s h = absurd s
   same_some (Some c) None d s h = absurd s
   same_some (Some c) (Some x) d s h = (c, refl, s ∙ ap m.amount (let k : x ≡ d = cc in k))

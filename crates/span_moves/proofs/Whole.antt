@@ -16,7 +16,7 @@ use Rattle.span_moves.specs.Moves.{unwelcome, free_places, change_checks, span_r
 use Rattle.span_moves.proofs.Firsts.{clear_from}
 use Rattle.span_moves.proofs.Alike.{free_alike, fits_alike, lefts_alike}
 
-module _ {Q R : Type 0} (m : Measure Q R) (held : Grid Q) (places : ℕ) (admission : ℕ → ℕ → Q → Admission) (first last : ℕ) (q : Q) (other : Grid Q) (r : Q) (e : amounts m other ≡ amounts m held) (f : m.amount r ≡ m.amount q) where
+module _ {Q R : Type 0} (m : Measure Q R) (held : Grid Q) (q : Q) (other : Grid Q) (r : Q) (e : amounts m other ≡ amounts m held) (f : m.amount r ≡ m.amount q) (places : ℕ) (admission : ℕ → ℕ → Q → Admission) (first last : ℕ) where
   pub change_checks-alike : (change : Change) (p : ℕ) → change_checks m other places admission change p first last r ≡ first_some (first_of (unfit m held change p q) first (count first last) ∷ (first_of (unwelcome m other places admission change p r) first (count first last) ∷ (crowding (left_after m held change p q (free_places m held places admission) first (count first last)) ∷ [])))
   change_checks-alike change p = rw (fits_alike m held other e q r f change p first (count first last), free_alike m held other e places admission, lefts_alike m held other e q r f change p (free_places m held places admission) first (count first last)) refl
 

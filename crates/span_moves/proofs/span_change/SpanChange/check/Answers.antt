@@ -15,24 +15,24 @@ room g c = rw (let w : g.B.Book.places c.args.book.now - taken g.Q.Quantity.meas
 pub returns-in_err-check_fits-clause-alike : goal.returns-in_err-check_fits-clause-alike
 returns-in_err-check_fits-clause-alike g c other r e f =
     let p = err_from_is_err_and c.from_residual.result c.from_residual.ensures.1 in
-    rw (p.1, p.2, change_checks-alike g.Q.Quantity.measure (g.B.Book.holdings c.args.book.now) (g.B.Book.places c.args.book.now) (g.B.Book.admission c.args.book.now) c.args.self.span.first c.args.self.span.last c.args.self.quantity other r e f c.args.self.change c.args.self.provider.number, ← c.in_err-check_fits.ensures) refl
+    rw (p.1, p.2, change_checks-alike g.Q.Quantity.measure (g.B.Book.holdings c.args.book.now) c.args.self.quantity, ← c.in_err-check_fits.ensures) refl
 
 pub returns-in_err-check_admitted-clause-alike : goal.returns-in_err-check_admitted-clause-alike
 returns-in_err-check_admitted-clause-alike g c other r e f =
     let p = err_from_is_err_and c.from_residual-in_err-check_admitted.result c.from_residual-in_err-check_admitted.ensures.1 in
-    rw (p.1, p.2, change_checks-alike g.Q.Quantity.measure (g.B.Book.holdings c.args.book.now) (g.B.Book.places c.args.book.now) (g.B.Book.admission c.args.book.now) c.args.self.span.first c.args.self.span.last c.args.self.quantity other r e f c.args.self.change c.args.self.provider.number, ← c.in_ok-check_fits.ensures, ← c.in_err-check_admitted.ensures other r e f) refl
+    rw (p.1, p.2, change_checks-alike g.Q.Quantity.measure (g.B.Book.holdings c.args.book.now) c.args.self.quantity, ← c.in_ok-check_fits.ensures, ← c.in_err-check_admitted.ensures other r e f) refl
 
 pub returns-in_err-ok_or-clause-alike : goal.returns-in_err-ok_or-clause-alike
 returns-in_err-ok_or-clause-alike g c other r e f =
     let p = err_from_is_err_and c.from_residual-in_err-ok_or.result c.from_residual-in_err-ok_or.ensures.1 in
     let k = room g (goal.at.returns-in_err-ok_or-clause-alike g c).After-count_places in
     let no = none-ok_or c.count_places.result c.in_err-ok_or.field-0.0 c.in_err-ok_or.ensures.value in
-    rw (p.1, p.2, change_checks-alike g.Q.Quantity.measure (g.B.Book.holdings c.args.book.now) (g.B.Book.places c.args.book.now) (g.B.Book.admission c.args.book.now) c.args.self.span.first c.args.self.span.last c.args.self.quantity other r e f c.args.self.change c.args.self.provider.number, ← c.in_ok-check_fits.ensures, ← c.in_ok-check_admitted.ensures other r e f, k, no.0) (ap Some no.1)
+    rw (p.1, p.2, change_checks-alike g.Q.Quantity.measure (g.B.Book.holdings c.args.book.now) c.args.self.quantity, ← c.in_ok-check_fits.ensures, ← c.in_ok-check_admitted.ensures other r e f, k, no.0) (ap Some no.1)
 
 pub returns-clause-alike : goal.returns-clause-alike
 returns-clause-alike g c other r e f =
     let k = room g (goal.at.returns-clause-alike g c).After-count_places in
-    rw (change_checks-alike g.Q.Quantity.measure (g.B.Book.holdings c.args.book.now) (g.B.Book.places c.args.book.now) (g.B.Book.admission c.args.book.now) c.args.self.span.first c.args.self.span.last c.args.self.quantity other r e f c.args.self.change c.args.self.provider.number, ← c.in_ok-check_fits.ensures, ← c.in_ok-check_admitted.ensures other r e f, k, some-ok_or c.count_places.result c.in_ok-ok_or.field-0 c.in_ok-ok_or.ensures.value) refl
+    rw (change_checks-alike g.Q.Quantity.measure (g.B.Book.holdings c.args.book.now) c.args.self.quantity, ← c.in_ok-check_fits.ensures, ← c.in_ok-check_admitted.ensures other r e f, k, some-ok_or c.count_places.result c.in_ok-ok_or.field-0 c.in_ok-ok_or.ensures.value) refl
 
 pub returns-clause-ready : goal.returns-clause-ready
 returns-clause-ready g c =

@@ -10,7 +10,7 @@ returns-in_err-ok_or g c =
     let p = err_from_is_err_and c.from_residual.result c.from_residual.ensures.1 in
     let k = unless_some-ok_or c.next-changed.result c.misfit.result c.in_err-ok_or.field-0.0 c.in_err-ok_or.ensures.value in
     let h = rw (c.misfit.ensures, c.next-changed.ensures, c.held.ensures) at k in
-    rw (p.1, p.2) (sym (first_of-hit (unfit g.Q.Quantity.measure (g.B.Book.holdings c.args.book.now) c.args.self.change c.args.self.provider.number c.args.self.quantity) c.args.self.span.first _ c.loop-quarter.quarter _ (omega arith) (omega arith) c.loop-quarter.invariant h))
+    rw (p.1, p.2) (sym (first_of-hit _ _ _ c.loop-quarter.quarter _ (omega arith) (omega arith) c.loop-quarter.invariant h))
 
 pub returns-in_ok-ok_or : goal.returns-in_ok-ok_or
 returns-in_ok-ok_or g c = grind (arith, common_steps, first_of-clear)

@@ -34,7 +34,7 @@ returns-in_err-left g c =
     let held = g.B.Book.holdings c.args.book.now in
     let p = c.args.self.provider.number in
     let k = counted g (goal.at.returns-in_err-left g c).After-after_step in
-    rw c.from_residual.ensures (sym (left_wanting (λ u. is_zero m (held p u)) (λ u. is_zero m (becomes m held c.args.self.change p c.args.self.quantity u)) (Some c.args.free) c.args.self.span.first (c.loop-quarter.quarter + 1) (c.args.self.span.last + 1) (omega arith) (omega arith) (rw c.in_err-left.was at k)))
+    rw c.from_residual.ensures (sym (left_wanting _ _ _ _ (c.loop-quarter.quarter + 1) (c.args.self.span.last + 1) (omega arith) (omega arith) (rw c.in_err-left.was at k)))
 
 pub loop-quarter-preserved : goal.loop-quarter-preserved
 loop-quarter-preserved g c = rw c.in_ok-left.was at (counted g (goal.at.loop-quarter-preserved g c).After-after_step)

@@ -25,7 +25,7 @@ returns-in_err-check_fits-clause-alike g c other r e f =
     let held = g.B.Book.holdings c.args.book.now in
     let x = c.args.self.now in
     let p = err_from_is_err_and c.from_residual.result c.from_residual.ensures.1 in
-    rw (p.1, p.2, move_checks-alike m held (g.B.Book.places c.args.book.now) (g.B.Book.admission c.args.book.now) x.span.first x.span.last x.quantity other r e f x.giver.number x.taker.number, ← (rw c.change-lowering.ensures at c.in_err-check_fits.ensures)) refl
+    rw (p.1, p.2, move_checks-alike m held x.quantity, ← (rw c.change-lowering.ensures at c.in_err-check_fits.ensures)) refl
 
 pub returns-in_err-check_fits-2-clause-alike : goal.returns-in_err-check_fits-2-clause-alike
 returns-in_err-check_fits-2-clause-alike g c other r e f =
@@ -33,7 +33,7 @@ returns-in_err-check_fits-2-clause-alike g c other r e f =
     let held = g.B.Book.holdings c.args.book.now in
     let x = c.args.self.now in
     let p = err_from_is_err_and c.from_residual-in_err-check_fits-2.result c.from_residual-in_err-check_fits-2.ensures.1 in
-    rw (p.1, p.2, move_checks-alike m held (g.B.Book.places c.args.book.now) (g.B.Book.admission c.args.book.now) x.span.first x.span.last x.quantity other r e f x.giver.number x.taker.number, ← (rw c.change-lowering.ensures at c.in_ok-check_fits.ensures), ← (rw c.change-raising.ensures at c.in_err-check_fits-2.ensures)) refl
+    rw (p.1, p.2, move_checks-alike m held x.quantity, ← (rw c.change-lowering.ensures at c.in_ok-check_fits.ensures), ← (rw c.change-raising.ensures at c.in_err-check_fits-2.ensures)) refl
 
 pub returns-in_err-check_admitted-clause-alike : goal.returns-in_err-check_admitted-clause-alike
 returns-in_err-check_admitted-clause-alike g c other r e f =
@@ -41,7 +41,7 @@ returns-in_err-check_admitted-clause-alike g c other r e f =
     let held = g.B.Book.holdings c.args.book.now in
     let x = c.args.self.now in
     let p = err_from_is_err_and c.from_residual-in_err-check_admitted.result c.from_residual-in_err-check_admitted.ensures.1 in
-    rw (p.1, p.2, move_checks-alike m held (g.B.Book.places c.args.book.now) (g.B.Book.admission c.args.book.now) x.span.first x.span.last x.quantity other r e f x.giver.number x.taker.number, ← (rw c.change-lowering.ensures at c.in_ok-check_fits.ensures), ← (rw c.change-raising.ensures at c.in_ok-check_fits-2.ensures), ← (rw c.change-raising.ensures at c.in_err-check_admitted.ensures other r e f)) refl
+    rw (p.1, p.2, move_checks-alike m held x.quantity, ← (rw c.change-lowering.ensures at c.in_ok-check_fits.ensures), ← (rw c.change-raising.ensures at c.in_ok-check_fits-2.ensures), ← (rw c.change-raising.ensures at c.in_err-check_admitted.ensures other r e f)) refl
 
 pub returns-in_err-lowered-clause-alike : goal.returns-in_err-lowered-clause-alike
 returns-in_err-lowered-clause-alike g c other r e f =
@@ -50,7 +50,7 @@ returns-in_err-lowered-clause-alike g c other r e f =
     let x = c.args.self.now in
     let p = err_from_is_err_and c.from_residual-in_err-lowered.result c.from_residual-in_err-lowered.ensures.1 in
     let no = none-ok_or c.count_places.result c.in_err-lowered.field-0.0 c.in_err-lowered.ensures.value in
-    rw (p.1, p.2, move_checks-alike m held (g.B.Book.places c.args.book.now) (g.B.Book.admission c.args.book.now) x.span.first x.span.last x.quantity other r e f x.giver.number x.taker.number, ← (rw c.change-lowering.ensures at c.in_ok-check_fits.ensures), ← (rw c.change-raising.ensures at c.in_ok-check_fits-2.ensures), ← (rw c.change-raising.ensures at c.in_ok-check_admitted.ensures other r e f), lowered_left g (goal.at.returns-in_err-lowered-clause-alike g c).After-count_places, no.0, left-None (λ t. is_zero m (held x.taker.number t)) (λ t. is_zero m (becomes m held Raising x.taker.number x.quantity t)) x.span.first (count x.span.first x.span.last)) (ap Some no.1)
+    rw (p.1, p.2, move_checks-alike m held x.quantity, ← (rw c.change-lowering.ensures at c.in_ok-check_fits.ensures), ← (rw c.change-raising.ensures at c.in_ok-check_fits-2.ensures), ← (rw c.change-raising.ensures at c.in_ok-check_admitted.ensures other r e f), lowered_left g (goal.at.returns-in_err-lowered-clause-alike g c).After-count_places, no.0, left-None) (ap Some no.1)
 
 pub returns-in_err-ok_or-clause-alike : goal.returns-in_err-ok_or-clause-alike
 returns-in_err-ok_or-clause-alike g c other r e f =
@@ -59,14 +59,14 @@ returns-in_err-ok_or-clause-alike g c other r e f =
     let x = c.args.self.now in
     let p = err_from_is_err_and c.from_residual-in_err-ok_or.result c.from_residual-in_err-ok_or.ensures.1 in
     let no = none-ok_or c.count_places-2.result c.in_err-ok_or.field-0.0 c.in_err-ok_or.ensures.value in
-    rw (p.1, p.2, move_checks-alike m held (g.B.Book.places c.args.book.now) (g.B.Book.admission c.args.book.now) x.span.first x.span.last x.quantity other r e f x.giver.number x.taker.number, ← (rw c.change-lowering.ensures at c.in_ok-check_fits.ensures), ← (rw c.change-raising.ensures at c.in_ok-check_fits-2.ensures), ← (rw c.change-raising.ensures at c.in_ok-check_admitted.ensures other r e f), lowered_left g (goal.at.returns-in_err-ok_or-clause-alike g c).After-count_places, some-ok_or c.count_places.result c.in_ok-lowered.lowered c.in_ok-lowered.ensures.value, raised_left g (goal.at.returns-in_err-ok_or-clause-alike g c).After-count_places-2, no.0) (ap Some no.1)
+    rw (p.1, p.2, move_checks-alike m held x.quantity, ← (rw c.change-lowering.ensures at c.in_ok-check_fits.ensures), ← (rw c.change-raising.ensures at c.in_ok-check_fits-2.ensures), ← (rw c.change-raising.ensures at c.in_ok-check_admitted.ensures other r e f), lowered_left g (goal.at.returns-in_err-ok_or-clause-alike g c).After-count_places, some-ok_or c.count_places.result c.in_ok-lowered.lowered c.in_ok-lowered.ensures.value, raised_left g (goal.at.returns-in_err-ok_or-clause-alike g c).After-count_places-2, no.0) (ap Some no.1)
 
 pub returns-clause-alike : goal.returns-clause-alike
 returns-clause-alike g c other r e f =
     let m = g.Q.Quantity.measure in
     let held = g.B.Book.holdings c.args.book.now in
     let x = c.args.self.now in
-    rw (move_checks-alike m held (g.B.Book.places c.args.book.now) (g.B.Book.admission c.args.book.now) x.span.first x.span.last x.quantity other r e f x.giver.number x.taker.number, ← (rw c.change-lowering.ensures at c.in_ok-check_fits.ensures), ← (rw c.change-raising.ensures at c.in_ok-check_fits-2.ensures), ← (rw c.change-raising.ensures at c.in_ok-check_admitted.ensures other r e f), lowered_left g (goal.at.returns-clause-alike g c).After-count_places, some-ok_or c.count_places.result c.in_ok-lowered.lowered c.in_ok-lowered.ensures.value, raised_left g (goal.at.returns-clause-alike g c).After-count_places-2, some-ok_or c.count_places-2.result c.in_ok-ok_or.field-0 c.in_ok-ok_or.ensures.value) refl
+    rw (move_checks-alike m held x.quantity, ← (rw c.change-lowering.ensures at c.in_ok-check_fits.ensures), ← (rw c.change-raising.ensures at c.in_ok-check_fits-2.ensures), ← (rw c.change-raising.ensures at c.in_ok-check_admitted.ensures other r e f), lowered_left g (goal.at.returns-clause-alike g c).After-count_places, some-ok_or c.count_places.result c.in_ok-lowered.lowered c.in_ok-lowered.ensures.value, raised_left g (goal.at.returns-clause-alike g c).After-count_places-2, some-ok_or c.count_places-2.result c.in_ok-ok_or.field-0 c.in_ok-ok_or.ensures.value) refl
 
 pub returns-clause-ready : goal.returns-clause-ready
 returns-clause-ready g c =
