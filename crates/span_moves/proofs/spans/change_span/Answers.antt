@@ -1,4 +1,4 @@
-use Rattle.std.proofs.Common.{Some, None, sym, refl, ap, ◌∙◌}
+use Rattle.std.proofs.Common.{Some, None, sym, refl, ap}
 use Rattle.std.specs.Result.{result_err}
 use Rattle.std.proofs.lemmas.Result.{err_from_is_err_and}
 use Rattle.refusals.specs.Numbers.{answer_number}
@@ -14,20 +14,18 @@ checked : (g : given.Over) (c : After-check g) → Alike g.B.Q.Quantity.measure 
 checked g c other r e f =
     let parts = c.in_ok-planned.ensures.parts in
     let told = rw (parts.0, parts.1, parts.2, parts.3, parts.4) at c.check.ensures.alike in
-    told other r e f ∙ sym (span_refusal-checks g.B.Q.Quantity.measure other (g.B.Book.places c.args.book.now) (g.B.Book.admission c.args.book.now) c.args.change c.args.provider c.args.first c.args.last r (sym c.in_ok-planned.ensures.refusal))
+    rw (span_refusal-checks c.args.provider c.args.first c.args.last (sym c.in_ok-planned.ensures.refusal)) (told other r e f)
 
 pub returns-in_err-planned : goal.returns-in_err-planned
 returns-in_err-planned g c =
-    let m = g.B.Q.Quantity.measure in
     let held = g.B.Book.holdings c.args.book.now in
-    let places = g.B.Book.places c.args.book.now in
-    let admission = g.B.Book.admission c.args.book.now in
     let p = err_from_is_err_and c.from_residual.result c.from_residual.ensures.1 in
-    let told : Alike m held c.args.quantity (λ other r. span_refusal m other places admission c.args.change c.args.provider c.args.first c.args.last r) (result_err c.from_residual.result) = λ other r e f. rw (p.1, p.2) (sym (span_refusal-shape m other places admission c.args.change c.args.provider c.args.first c.args.last r c.in_err-planned.field-0.0 (sym c.in_err-planned.ensures.refusal))) in
+    let no = span_refusal-shape c.args.provider c.args.first c.args.last c.in_err-planned.field-0.0 (sym c.in_err-planned.ensures.refusal) in
+    let why = sym (no g.B.Q.Quantity.measure held (g.B.Book.places c.args.book.now) (g.B.Book.admission c.args.book.now) c.args.change c.args.quantity) in
     record {
-      answer = ap answer_number (told held c.args.quantity refl refl);
-      alike = told;
-      after = sym (rw p.1 at (span_after-is m held places admission c.args.change c.args.provider c.args.first c.args.last c.args.quantity (result_err c.from_residual.result) (told held c.args.quantity refl refl)));
+      answer = rw (p.1, p.2) (ap answer_number why);
+      alike = λ other r e f. rw (p.1, p.2, no) refl;
+      after = rw (span_after-is (Some c.in_err-planned.field-0.0)) refl;
       places = refl;
       admission = refl;
       layer = refl;
@@ -35,16 +33,14 @@ returns-in_err-planned g c =
 
 pub returns-in_err-check : goal.returns-in_err-check
 returns-in_err-check g c =
-    let m = g.B.Q.Quantity.measure in
     let held = g.B.Book.holdings c.args.book.now in
-    let places = g.B.Book.places c.args.book.now in
-    let admission = g.B.Book.admission c.args.book.now in
     let p = err_from_is_err_and c.from_residual-in_err-check.result c.from_residual-in_err-check.ensures.1 in
     let told = rw c.in_err-check.was at (checked g (goal.at.returns-in_err-check g c).After-check) in
+    let why = told held c.args.quantity refl refl in
     record {
-      answer = rw (p.1, p.2) (ap answer_number (told held c.args.quantity refl refl));
+      answer = rw (p.1, p.2) (ap answer_number why);
       alike = rw (p.1, p.2) told;
-      after = sym (span_after-is m held places admission c.args.change c.args.provider c.args.first c.args.last c.args.quantity (Some c.in_err-check.field-0.0) (told held c.args.quantity refl refl));
+      after = rw (span_after-is (Some c.in_err-check.field-0.0)) refl;
       places = refl;
       admission = refl;
       layer = refl;
@@ -52,17 +48,15 @@ returns-in_err-check g c =
 
 pub returns : goal.returns
 returns g c =
-    let m = g.B.Q.Quantity.measure in
     let held = g.B.Book.holdings c.args.book.now in
-    let places = g.B.Book.places c.args.book.now in
-    let admission = g.B.Book.admission c.args.book.now in
     let told = rw c.in_ok-check.was at (checked g (goal.at.returns g c).After-check) in
+    let why = told held c.args.quantity refl refl in
     let parts = c.in_ok-planned.ensures.parts in
     let changed = rw (parts.0, parts.1, parts.2, parts.3, parts.4) at c.apply.ensures.after in
     record {
-      answer = ap answer_number (told held c.args.quantity refl refl);
+      answer = ap answer_number why;
       alike = told;
-      after = changed ∙ sym (span_after-is m held places admission c.args.change c.args.provider c.args.first c.args.last c.args.quantity None (told held c.args.quantity refl refl));
+      after = rw (span_after-is None) changed;
       places = c.apply.ensures.places;
       admission = c.apply.ensures.admission;
       layer = c.apply.ensures.layer;

@@ -1,6 +1,5 @@
 use Rattle.std.proofs.Common.{sym, arith}
 use Rattle.std.proofs.lemmas.Result.{err_from_is_err_and}
-use Rattle.span_moves.specs.Moves.{unwelcome}
 use Rattle.span_moves.proofs.Firsts.{first_of-hit, first_of-clear}
 use Rattle.span_moves.proofs.span_change.SpanChange.check_admitted.Goals as goal
 

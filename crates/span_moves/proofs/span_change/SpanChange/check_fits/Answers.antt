@@ -1,7 +1,6 @@
 use Rattle.std.proofs.Common.{sym, arith}
 use Rattle.std.proofs.lemmas.Grind.{common_steps}
 use Rattle.std.proofs.lemmas.Result.{err_from_is_err_and}
-use Rattle.span_moves.specs.Spans.{unfit}
 use Rattle.span_moves.proofs.Firsts.{unless_some-ok_or, first_of-hit, first_of-clear}
 use Rattle.span_moves.proofs.span_change.SpanChange.check_fits.Goals as goal
 
