@@ -2,7 +2,7 @@ use Rattle.std.proofs.Common.{◌≡◌, ◌+◌, ◌-◌, sym, refl, arith}
 use Rattle.book.specs.Grid.{amounts}
 use Rattle.span_moves.specs.Spans.{left}
 use Rattle.span_moves.specs.Ready.{changed_one}
-use Rattle.span_moves.proofs.Spanned.{spanned_none}
+use Rattle.span_moves.proofs.Spanned.{spanned-none}
 use Rattle.span_moves.proofs.Steps.{Stepped, next_quarter}
 use Rattle.span_moves.proofs.span_change.SpanChange.apply.Given as given
 use Rattle.span_moves.proofs.span_change.SpanChange.apply.Goals as goal
@@ -24,7 +24,7 @@ stepped g c =
 pub loop-quarter-init : goal.loop-quarter-init
 unfolding left
 loop-quarter-init g c = record {
-  so_far = sym (spanned_none g.Q.Quantity.measure (g.B.Book.holdings c.args.book.now) c.args.self.change c.args.self.provider.number c.args.self.quantity c.args.self.span.first);
+  so_far = sym (spanned-none g.Q.Quantity.measure (g.B.Book.holdings c.args.book.now) c.args.self.change c.args.self.provider.number c.args.self.quantity c.args.self.span.first);
   left_is = rw (let w : c.args.self.span.first - c.args.self.span.first ≡ 0 = omega arith in w) refl;
   bound = c.requires.bound;
   places = refl;
