@@ -4,16 +4,16 @@ use Rattle.requests.proofs.Places.{place_hit, place_miss, place_start, place_end
 use Rattle.requests.proofs.finding.find_request.Goals as goal
 
 pub loop-place-init : goal.loop-place-init
-loop-place-init g c = place_start (matching c.args.joining c.args.giver c.args.taker c.args.first c.args.last)
+loop-place-init g c = place_start (matching c.args.joining c.args.passage)
 
 pub returns-then-is_match : goal.returns-then-is_match
 returns-then-is_match g c =
-    sym (place_hit (matching c.args.joining c.args.giver c.args.taker c.args.first c.args.last) (g.L.Records.contents c.args.list.now) c.loop-place.place (sym c.is_match.ensures ∙ c.if-is_match.true) c.loop-place.invariant)
+    sym (place_hit (matching c.args.joining c.args.passage) (g.L.Records.contents c.args.list.now) c.loop-place.place (sym c.is_match.ensures ∙ c.if-is_match.true) c.loop-place.invariant)
 
 pub loop-place-preserved : goal.loop-place-preserved
 loop-place-preserved g c =
-    place_miss (matching c.args.joining c.args.giver c.args.taker c.args.first c.args.last) (g.L.Records.contents c.args.list.now) c.loop-place.place (sym c.is_match.ensures ∙ c.if-is_match.false) c.loop-place.invariant
+    place_miss (matching c.args.joining c.args.passage) (g.L.Records.contents c.args.list.now) c.loop-place.place (sym c.is_match.ensures ∙ c.if-is_match.false) c.loop-place.invariant
 
 pub returns : goal.returns
 returns g c =
-    sym (place_end (matching c.args.joining c.args.giver c.args.taker c.args.first c.args.last) (g.L.Records.contents c.args.list.now) c.loop-place.place (omega arith) c.loop-place.invariant)
+    sym (place_end (matching c.args.joining c.args.passage) (g.L.Records.contents c.args.list.now) c.loop-place.place (omega arith) c.loop-place.invariant)
