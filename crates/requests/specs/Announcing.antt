@@ -1,6 +1,6 @@
 -- What an announcement answers and what it makes of the list.
 use Rattle.std.specs.Prelude.{ℕ, min, Bool, cond, List, [], ◌∷◌, ◌++◌, length, Some, None, Option, nat_lt, slice_set}
-use Rattle.std.specs.List.{slice_get}
+use Rattle.std.specs.List.{slice_get, position}
 use Rattle.std.specs.Option.{unwrap_or}
 use Rattle.quantity.specs.Measure.{Measure}
 use Rattle.refusals.specs.declared.refusal.Refusal.{Refusal}
@@ -11,7 +11,7 @@ use Rattle.requests.specs.declared.request.Passage.{Passage}
 use Rattle.requests.specs.declared.request.Request.{Request}
 use Rattle.requests.specs.declared.finding.Joining.{Joining}
 use Rattle.requests.specs.declared.finding.Joining.TheVariants.{Unresolved, NotBalanced}
-use Rattle.requests.specs.Requests.{matching, first_place, spoken}
+use Rattle.requests.specs.Requests.{matching, spoken}
 
 -- the list with one of its elements changed
 abbrev pub changed_of : {E : Type 0} → (E → E) → List E → ℕ → Option E → List E
@@ -49,12 +49,12 @@ list_of NotBalanced xs places change new None = xs
 
 module _ {R : Type 0} (joining : Joining) (xs : List (Request R)) where
   unfoldable pub announcement_refusal : ℕ → Passage → Option Refusal
-  announcement_refusal places passage = refusal_of joining xs places (first_place (matching joining passage) xs)
+  announcement_refusal places passage = refusal_of joining xs places (position (matching joining passage) xs)
 
   -- the request that is joined, or the next place
   unfoldable pub announcement_place : Passage → ℕ
-  announcement_place passage = unwrap_or (first_place (matching joining passage) xs) (length xs)
+  announcement_place passage = unwrap_or (position (matching joining passage) xs) (length xs)
 
 unfoldable pub announcement_list : {Q R : Type 0} (m : Measure Q R) → Joining → List (Request R) → ℕ → Side → Passage → Q → List (Request R)
 announcement_list m joining xs places side passage q =
-    list_of joining xs places (spoken m side (m.row q)) (spoken m side (m.row q) (unspoken passage)) (first_place (matching joining passage) xs)
+    list_of joining xs places (spoken m side (m.row q)) (spoken m side (m.row q) (unspoken passage)) (position (matching joining passage) xs)

@@ -1,5 +1,5 @@
 -- What requests say, and which of them an announcement joins.
-use Rattle.std.specs.Prelude.{ℕ, suc, Bool, true, false, cond, ◌&&◌, List, [], ◌∷◌, Some, None, Option, ◌==◌}
+use Rattle.std.specs.Prelude.{Bool, true, false, cond, ◌&&◌, Some, None, Option, ◌==◌}
 use Rattle.quantity.specs.Measure.{Measure}
 use Rattle.requests.specs.declared.request.Side.{Side}
 use Rattle.requests.specs.declared.request.Side.TheVariants.{Giver, Taker}
@@ -35,15 +35,6 @@ matching j p r = same_passage r.passage p && joins j r.status
 abbrev pub holds_of : {E : Type 0} → (E → Bool) → Option E → Bool
 holds_of test None = false
 holds_of test (Some x) = test x
-
-abbrev pub later : Option ℕ → Option ℕ
-later None = None
-later (Some place) = Some (suc place)
-
--- the first place of which a test holds
-unfoldable pub first_place : {E : Type 0} → (E → Bool) → List E → Option ℕ
-first_place test [] = None
-first_place test (x ∷ xs) = cond (test x) (Some 0) (later (first_place test xs))
 
 module _ {Q R : Type 0} (m : Measure Q R) where
   -- one side has announced, both have announced equal quantities, or unequal ones

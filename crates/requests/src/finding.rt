@@ -1,6 +1,6 @@
 ghost use Rattle.std.specs.Prelude.{◌≡◌};
-ghost use Rattle.std.specs.List.{slice_get};
-ghost use Rattle.requests.specs.Requests.{joins, matching, holds_of, first_place};
+ghost use Rattle.std.specs.List.{slice_get, position};
+ghost use Rattle.requests.specs.Requests.{joins, matching, holds_of};
 
 use crate::request::{Passage, Request, Status};
 use record_list::interface::Records;
@@ -48,12 +48,7 @@ pub fn find_request<R: Copy, L: Records<Record = Request<R>>>(
     joining: Joining,
     passage: Passage,
 ) -> Option<usize>
-    ensures { result ≡ first_place (matching joining passage) (L.Records.contents list.now) }
+    ensures { result ≡ position (matching joining passage) (L.Records.contents list.now) }
 {
-    for place in 0..list.count() {
-        if is_match(list, place, joining, passage) {
-            return Some(place);
-        }
-    }
-    None
+    (0..list.count()).find(|&place| is_match(list, place, joining, passage))
 }
