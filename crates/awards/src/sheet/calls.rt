@@ -25,20 +25,16 @@ impl Sheet {
         ensures value { result ≡ (view self.now).earned provider }
         ensures bound { result ≤ (view self.now).awards * most_earned }
     {
-        if provider >= 32 {
-            return 0;
-        }
-        self.accounts[provider as usize].earned
+        self.accounts
+            .get(provider as usize)
+            .map_or(0, |account| account.earned)
     }
 
     /// Whether a provider is exempt in a quarter: not where there is no such provider or quarter.
     pub fn is_exempt(&self, provider: u8, quarter: u8) -> bool
         ensures { result ≡ (view self.now).exempt provider quarter }
     {
-        if !in_range(provider, quarter) {
-            return false;
-        }
-        self.accounts[provider as usize].exempt[quarter as usize]
+        in_range(provider, quarter) && self.accounts[provider as usize].exempt[quarter as usize]
     }
 
     /// How many awards there are.
