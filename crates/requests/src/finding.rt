@@ -6,7 +6,7 @@ use crate::request::{Passage, Request, Status};
 use record_list::interface::Records;
 
 /// Which requests an announcement may join.
-#[derive(Clone, Copy)]
+#[derive(Clone, Copy, PartialEq, Eq, Debug)]
 pub enum Joining {
     /// Every unresolved one.
     Unresolved,
