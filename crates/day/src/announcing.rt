@@ -2,10 +2,9 @@ ghost use Rattle.std.specs.Prelude.{◌≡◌, IfOk};
 ghost use Rattle.std.specs.Result.{result_err};
 ghost use Rattle.refusals.specs.Numbers.{answer_number};
 ghost use Rattle.requests.specs.Announcing.{announcement_place};
-ghost use Rattle.requests.specs.declared.finding.Joining.TheVariants.{Unresolved, NotBalanced};
 ghost use Rattle.day.specs.Announcing.{deadline_of, outline_refusal, announce_refusal, announced_list, announced_day};
 
-use crate::stages::{Announcing, Day, Reconciling};
+use crate::stages::{BeforeGate, Day, InStage};
 use quantity::interface::Quantity;
 use record_list::interface::Records;
 use refusals::refusal::Refusal;
@@ -76,15 +75,19 @@ fn day_after<Q: Copy>(day: Day, said: Announcement<Q>, placed: &Result<usize, Re
 {
     match placed {
         Ok(_) => Day {
-            number: day.number,
-            quarters: day.quarters,
             minute: said.minute,
+            ..day
         },
         Err(_) => day,
     }
 }
 
 // Takes an announcement before a deadline.
+#[tactic(
+    auto,
+    using(refusals::proofs::Firsts::front_stops, refusals::proofs::Firsts::front_passes, refusals::proofs::Firsts::alone),
+    unfolding(crate::specs::Announcing::announce_refusal, crate::specs::Announcing::announced_list)
+)]
 fn announce_before<Q: Quantity, L: Records<Record = Request<Q::Row>>>(
     day: &mut Day,
     joining: Joining,
@@ -97,9 +100,7 @@ fn announce_before<Q: Quantity, L: Records<Record = Request<Q::Row>>>(
     ensures places { L.Records.places requests.new ≡ L.Records.places requests.old }
     ensures day { day.new ≡ announced_day day.old said (result_err result) }
 {
-    if let Err(refusal) = check_outline(*day, joining, said) {
-        return Err(refusal);
-    }
+    check_outline(*day, joining, said)?;
     let placed = put_announcement(
         requests,
         joining,
@@ -114,36 +115,20 @@ fn announce_before<Q: Quantity, L: Records<Record = Request<Q::Row>>>(
     placed
 }
 
-impl Announcing {
-    /// Takes an announcement: it joins the unresolved request of its giver, taker and span, or becomes a new one.
+impl<S: BeforeGate> InStage<S> {
+    /// Takes an announcement. In the first stage it joins the unresolved request of its giver, taker and span, or becomes a new one;
+    /// in the second it joins one whose two sides do not agree yet.
     pub fn announce<Q: Quantity, L: Records<Record = Request<Q::Row>>>(
         &mut self,
         requests: &mut L,
         said: Announcement<Q>,
     ) -> Result<usize, Refusal>
-        ensures answer { answer_number (result_err result) ≡ answer_number (announce_refusal Q.Quantity.measure self.old.day Unresolved said (L.Records.contents requests.old) (L.Records.places requests.old)) }
-        ensures place { IfOk result (λ p. p ≡ announcement_place Unresolved (L.Records.contents requests.old) said.giver said.taker said.first said.last) }
-        ensures contents { L.Records.contents requests.new ≡ announced_list Q.Quantity.measure self.old.day Unresolved said (L.Records.contents requests.old) (L.Records.places requests.old) }
+        ensures answer { answer_number (result_err result) ≡ answer_number (announce_refusal Q.Quantity.measure self.old.day S.joining said (L.Records.contents requests.old) (L.Records.places requests.old)) }
+        ensures place { IfOk result (λ p. p ≡ announcement_place S.joining (L.Records.contents requests.old) said.giver said.taker said.first said.last) }
+        ensures contents { L.Records.contents requests.new ≡ announced_list Q.Quantity.measure self.old.day S.joining said (L.Records.contents requests.old) (L.Records.places requests.old) }
         ensures places { L.Records.places requests.new ≡ L.Records.places requests.old }
         ensures day { self.new.day ≡ announced_day self.old.day said (result_err result) }
     {
-        announce_before(&mut self.day, Joining::Unresolved, requests, said)
-    }
-}
-
-impl Reconciling {
-    /// Takes an announcement that joins a request whose two sides do not agree yet.
-    pub fn announce<Q: Quantity, L: Records<Record = Request<Q::Row>>>(
-        &mut self,
-        requests: &mut L,
-        said: Announcement<Q>,
-    ) -> Result<usize, Refusal>
-        ensures answer { answer_number (result_err result) ≡ answer_number (announce_refusal Q.Quantity.measure self.old.day NotBalanced said (L.Records.contents requests.old) (L.Records.places requests.old)) }
-        ensures place { IfOk result (λ p. p ≡ announcement_place NotBalanced (L.Records.contents requests.old) said.giver said.taker said.first said.last) }
-        ensures contents { L.Records.contents requests.new ≡ announced_list Q.Quantity.measure self.old.day NotBalanced said (L.Records.contents requests.old) (L.Records.places requests.old) }
-        ensures places { L.Records.places requests.new ≡ L.Records.places requests.old }
-        ensures day { self.new.day ≡ announced_day self.old.day said (result_err result) }
-    {
-        announce_before(&mut self.day, Joining::NotBalanced, requests, said)
+        announce_before(&mut self.day, S::joining(), requests, said)
     }
 }

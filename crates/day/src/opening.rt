@@ -38,7 +38,7 @@ impl Announcing {
         ensures day { IfOk result (λ s. s.day ≡ opened_day number quarters) }
         ensures sheet { view sheet.new ≡ unless_refused (result_err result) blank_view (view sheet.old) }
     {
-        if quarters != 92 && quarters != 96 && quarters != 100 {
+        if !matches!(quarters, 92 | 96 | 100) {
             return Err(Refusal::NoSuchDayLength);
         }
         if number < 1 || number > 31 {
@@ -48,12 +48,10 @@ impl Announcing {
             return Err(Refusal::NotEmpty);
         }
         *sheet = Sheet::blank();
-        Ok(Announcing {
-            day: Day {
-                number,
-                quarters,
-                minute: i32::MIN,
-            },
-        })
+        Ok(Announcing::of(Day {
+            number,
+            quarters,
+            minute: i32::MIN,
+        }))
     }
 }

@@ -7,7 +7,7 @@ ghost use Rattle.refusals.specs.Numbers.{answer_number};
 ghost use Rattle.awards.specs.Sheets.{view};
 ghost use Rattle.day.specs.Questions.{question_refusal, lacking, status_refusal, status_of};
 
-use crate::stages::{Announcing, Day, Intraday, Reconciling};
+use crate::stages::Day;
 use awards::sheet::Sheet;
 use book::interface::Book;
 use quantity::direction::Direction;
@@ -22,30 +22,6 @@ use requests::request::{Request, Status};
 pub struct Missing {
     pub up: u16,
     pub down: u16,
-}
-
-impl Announcing {
-    pub fn day(&self) -> Day
-        ensures { result ≡ self.now.day }
-    {
-        self.day
-    }
-}
-
-impl Reconciling {
-    pub fn day(&self) -> Day
-        ensures { result ≡ self.now.day }
-    {
-        self.day
-    }
-}
-
-impl Intraday {
-    pub fn day(&self) -> Day
-        ensures { result ≡ self.now.day }
-    {
-        self.day
-    }
 }
 
 // A provider, and a quarter of the day.
@@ -71,9 +47,7 @@ pub fn holding_of<O: Book>(
     ensures answer { answer_number (result_err result) ≡ answer_number (question_refusal day provider quarter) }
     ensures value { IfOk result (λ q. q ≡ held_at O.Q.Quantity.measure (O.Book.holdings obligations.now) provider quarter) }
 {
-    if let Err(refusal) = check_question(day, provider, quarter) {
-        return Err(refusal);
-    }
+    check_question(day, provider, quarter)?;
     Ok(obligations.holding(provider, quarter))
 }
 
@@ -102,9 +76,7 @@ where
     ensures up { IfOk result (λ x. x.up ≡ lacking ((view sheet.now).exempt provider quarter) (O.Q.ReserveQuantity.tenths_in (held_at O.Q.Quantity.measure (O.Book.holdings obligations.now) provider quarter) 0) (O.Q.ReserveQuantity.tenths_in (held_at O.Q.Quantity.measure (B.Book.holdings bids.now) provider quarter) 0)) }
     ensures down { IfOk result (λ x. x.down ≡ lacking ((view sheet.now).exempt provider quarter) (O.Q.ReserveQuantity.tenths_in (held_at O.Q.Quantity.measure (O.Book.holdings obligations.now) provider quarter) 1) (O.Q.ReserveQuantity.tenths_in (held_at O.Q.Quantity.measure (B.Book.holdings bids.now) provider quarter) 1)) }
 {
-    if let Err(refusal) = check_question(day, provider, quarter) {
-        return Err(refusal);
-    }
+    check_question(day, provider, quarter)?;
     let held = obligations.holding(provider, quarter);
     let bid = bids.holding(provider, quarter);
     let exempt = sheet.is_exempt(provider, quarter);

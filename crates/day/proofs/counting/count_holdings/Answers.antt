@@ -1,6 +1,7 @@
 use Rattle.std.proofs.Common.{◌≡◌, sym, ap, ◌∙◌, arith}
 use Rattle.book.specs.Grid.{total, filled}
 use Rattle.book.proofs.Counts.{total_none, total_more, taken_is}
+use Rattle.day.proofs.Ranges.{count_filled}
 use Rattle.day.proofs.counting.count_holdings.Goals as goal
 
 pub loop-provider-init : goal.loop-provider-init
@@ -8,7 +9,7 @@ loop-provider-init g c = (sym (total_none (λ p. total (filled g.B.Q.Quantity.me
 
 pub loop-provider-preserved : goal.loop-provider-preserved
 loop-provider-preserved g c = (
-  omega (arith, total_more (λ p. total (filled g.B.Q.Quantity.measure (g.B.Book.holdings c.args.book.now) p) 100) c.loop-provider.provider, c.loop-provider.invariant.0, c.count_quarters-count.ensures.value),
+  omega (arith, total_more (λ p. total (filled g.B.Q.Quantity.measure (g.B.Book.holdings c.args.book.now) p) 100) c.loop-provider.provider, c.loop-provider.invariant.0, c.count_quarters-count.ensures.value, count_filled g.B.Q.Quantity.measure (g.B.Book.holdings c.args.book.now) c.loop-provider.provider 100),
   omega (arith, c.loop-provider.invariant.1, c.count_quarters-count.ensures.bound),
 )
 
