@@ -30,12 +30,9 @@ pub fn announced<Q: Quantity>(request: Request<Q::Row>, side: Side, quantity: Q)
         Side::Taker => (request.giving, word),
     };
     Request {
-        giver: request.giver,
-        taker: request.taker,
-        first: request.first,
-        last: request.last,
         giving,
         taking,
         status: balance_of::<Q>(giving, taking),
+        ..request
     }
 }

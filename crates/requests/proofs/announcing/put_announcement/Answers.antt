@@ -14,7 +14,7 @@ returns-in-Some g c =
     record {
       answer = ap (refusal_of c.args.joining xs places) e;
       place = ap (λ o. unwrap_or o (length xs)) e;
-      contents = c.join_request.ensures.contents ∙ ap (list_of c.args.joining xs places (spoken m c.args.side word) (spoken m c.args.side word (unspoken c.args.giver c.args.taker c.args.first c.args.last))) e;
+      contents = c.join_request.ensures.contents ∙ ap (list_of c.args.joining xs places (spoken m c.args.side word) (spoken m c.args.side word (unspoken c.args.passage))) e;
       places = c.join_request.ensures.places;
     }
 
@@ -31,8 +31,8 @@ returns-in-NotBalanced g c =
       answer = ap (λ x. refusal_of x xs places None) j ∙ ap (refusal_of c.args.joining xs places) e;
       place = tt;
       contents =
-          ap (λ x. list_of x xs places (spoken m c.args.side word) (spoken m c.args.side word (unspoken c.args.giver c.args.taker c.args.first c.args.last)) None) j
-          ∙ ap (list_of c.args.joining xs places (spoken m c.args.side word) (spoken m c.args.side word (unspoken c.args.giver c.args.taker c.args.first c.args.last))) e;
+          ap (λ x. list_of x xs places (spoken m c.args.side word) (spoken m c.args.side word (unspoken c.args.passage)) None) j
+          ∙ ap (list_of c.args.joining xs places (spoken m c.args.side word) (spoken m c.args.side word (unspoken c.args.passage))) e;
       places = refl;
     }
 
@@ -51,7 +51,7 @@ returns-in-Unresolved g c =
       contents =
           c.add_request.ensures.contents
           ∙ (ap (added xs places) c.announced.ensures
-          ∙ (ap (λ x. list_of x xs places (spoken m c.args.side word) (spoken m c.args.side word (unspoken c.args.giver c.args.taker c.args.first c.args.last)) None) j
-          ∙ ap (list_of c.args.joining xs places (spoken m c.args.side word) (spoken m c.args.side word (unspoken c.args.giver c.args.taker c.args.first c.args.last))) e));
+          ∙ (ap (λ x. list_of x xs places (spoken m c.args.side word) (spoken m c.args.side word (unspoken c.args.passage)) None) j
+          ∙ ap (list_of c.args.joining xs places (spoken m c.args.side word) (spoken m c.args.side word (unspoken c.args.passage))) e));
       places = c.add_request.ensures.places;
     }
