@@ -10,7 +10,7 @@ use record_list::interface::Records;
 use refusals::refusal::Refusal;
 use requests::announcing::put_announcement;
 use requests::finding::Joining;
-use requests::request::{Request, Side};
+use requests::request::{Passage, Request, Side};
 
 /// The minute from which nothing is announced in the first stage: 13:30 on the day before.
 pub const ANNOUNCING_ENDS: i32 = -630;
@@ -18,14 +18,11 @@ pub const ANNOUNCING_ENDS: i32 = -630;
 /// The minute from which nothing is announced in the second stage: 14:00 on the day before.
 pub const RECONCILING_ENDS: i32 = -600;
 
-/// What a side says of a request: who gives whom how much over which quarters, and when it is said.
+/// What a side says of a request: how much passes from whom to whom over which quarters, and when it is said.
 #[derive(Clone, Copy)]
 pub struct Announcement<Q> {
     pub side: Side,
-    pub giver: u8,
-    pub taker: u8,
-    pub first: u8,
-    pub last: u8,
+    pub passage: Passage,
     pub quantity: Q,
     pub minute: i32,
 }
@@ -48,13 +45,14 @@ fn check_outline<Q: Quantity>(
 ) -> Result<(), Refusal>
     ensures { result_err result ≡ outline_refusal Q.Quantity.measure day joining said }
 {
-    if said.giver >= 32 || said.taker >= 32 {
+    let passage = said.passage;
+    if passage.giver >= 32 || passage.taker >= 32 {
         return Err(Refusal::NoSuchProvider);
     }
-    if said.first > said.last || said.last >= day.quarters {
+    if passage.first > passage.last || passage.last >= day.quarters {
         return Err(Refusal::NoSuchSpan);
     }
-    if said.giver == said.taker {
+    if passage.giver == passage.taker {
         return Err(Refusal::SameProvider);
     }
     if said.quantity.equals(Q::zero()) {
@@ -83,11 +81,7 @@ fn day_after<Q: Copy>(day: Day, said: Announcement<Q>, placed: &Result<usize, Re
 }
 
 // Takes an announcement before a deadline.
-#[tactic(
-    auto,
-    using(refusals::proofs::Firsts::front_stops, refusals::proofs::Firsts::front_passes, refusals::proofs::Firsts::alone),
-    unfolding(crate::specs::Announcing::announce_refusal, crate::specs::Announcing::announced_list)
-)]
+#[tactic(auto, using(refusals::proofs::Firsts::front_stops, refusals::proofs::Firsts::front_passes, refusals::proofs::Firsts::alone), unfolding(crate::specs::Announcing::announce_refusal, crate::specs::Announcing::announced_list))]
 fn announce_before<Q: Quantity, L: Records<Record = Request<Q::Row>>>(
     day: &mut Day,
     joining: Joining,
@@ -95,22 +89,13 @@ fn announce_before<Q: Quantity, L: Records<Record = Request<Q::Row>>>(
     said: Announcement<Q>,
 ) -> Result<usize, Refusal>
     ensures answer { result_err result ≡ announce_refusal Q.Quantity.measure day.old joining said (L.Records.contents requests.old) (L.Records.places requests.old) }
-    ensures place { IfOk result (λ p. p ≡ announcement_place joining (L.Records.contents requests.old) said.giver said.taker said.first said.last) }
+    ensures place { IfOk result (λ p. p ≡ announcement_place joining (L.Records.contents requests.old) said.passage) }
     ensures contents { L.Records.contents requests.new ≡ announced_list Q.Quantity.measure day.old joining said (L.Records.contents requests.old) (L.Records.places requests.old) }
     ensures places { L.Records.places requests.new ≡ L.Records.places requests.old }
     ensures day { day.new ≡ announced_day day.old said (result_err result) }
 {
     check_outline(*day, joining, said)?;
-    let placed = put_announcement(
-        requests,
-        joining,
-        said.side,
-        said.giver,
-        said.taker,
-        said.first,
-        said.last,
-        said.quantity,
-    );
+    let placed = put_announcement(requests, joining, said.side, said.passage, said.quantity);
     *day = day_after(*day, said, &placed);
     placed
 }
@@ -124,7 +109,7 @@ impl<S: BeforeGate> InStage<S> {
         said: Announcement<Q>,
     ) -> Result<usize, Refusal>
         ensures answer { answer_number (result_err result) ≡ answer_number (announce_refusal Q.Quantity.measure self.old.day S.joining said (L.Records.contents requests.old) (L.Records.places requests.old)) }
-        ensures place { IfOk result (λ p. p ≡ announcement_place S.joining (L.Records.contents requests.old) said.giver said.taker said.first said.last) }
+        ensures place { IfOk result (λ p. p ≡ announcement_place S.joining (L.Records.contents requests.old) said.passage) }
         ensures contents { L.Records.contents requests.new ≡ announced_list Q.Quantity.measure self.old.day S.joining said (L.Records.contents requests.old) (L.Records.places requests.old) }
         ensures places { L.Records.places requests.new ≡ L.Records.places requests.old }
         ensures day { self.new.day ≡ announced_day self.old.day said (result_err result) }

@@ -1,7 +1,6 @@
-use Rattle.std.proofs.Common.{◌≡◌, rules, [], ◌∷◌, Some, sym, ◌∙◌}
+use Rattle.std.proofs.Common.{◌≡◌, rules, Some, sym, ◌∙◌}
 use Rattle.std.specs.Result.{result_err}
 use Rattle.refusals.proofs.Firsts.{front_stops}
-use Rattle.requests.specs.Announcing.{announcement_refusal}
 use Rattle.day.specs.Announcing.{outline, announce_refusal}
 use Rattle.day.proofs.announcing.announce_before.Goals as goal
 
