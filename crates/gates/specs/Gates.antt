@@ -20,7 +20,7 @@ passing m (Some row) = m.told row
 
 -- a request with another status
 abbrev pub given_status : {R : Type 0} → Request R → Status → Request R
-given_status r status = record { giver = r.giver; taker = r.taker; first = r.first; last = r.last; giving = r.giving; taking = r.taking; status = status }
+given_status r status = record { passage = r.passage; giving = r.giving; taking = r.taking; status = status }
 
 -- the status of a move that was made, or that a cause kept from being made
 abbrev pub outcome : Option Refusal → Status
@@ -63,7 +63,7 @@ judged gate why status = cond (has_balance status) (outcome why) (closed gate st
 module _ {Q R : Type 0} (m : Measure Q R) (places : ℕ) (admission : ℕ → ℕ → Q → Admission) where
   -- why the move of a request cannot be made over these holdings, if it cannot
   abbrev pub cause : Grid Q → Request R → Option Refusal
-  cause held r = move_refusal m held places admission r.giver r.taker r.first r.last (passing m r.giving)
+  cause held r = move_refusal m held places admission r.passage.giver r.passage.taker r.passage.first r.passage.last (passing m r.giving)
 
   -- one request after the gate, over the holdings that its predecessors left
   abbrev pub settled : Gate → Grid Q → Request R → Request R
@@ -71,7 +71,7 @@ module _ {Q R : Type 0} (m : Measure Q R) (places : ℕ) (admission : ℕ → �
 
   -- the holdings after the move of a request, if it can be made
   abbrev pub moved_on : Grid Q → Request R → Grid Q
-  moved_on held r = unless_refused (cause held r) (moved_holdings m held r.giver r.taker (passing m r.giving) r.first (r.last + 1)) held
+  moved_on held r = unless_refused (cause held r) (moved_holdings m held r.passage.giver r.passage.taker (passing m r.giving) r.passage.first (r.passage.last + 1)) held
 
   -- the holdings after a request: only a balanced one moves
   abbrev pub passed_on : Grid Q → Request R → Grid Q

@@ -3,33 +3,24 @@ ghost use Rattle.std.specs.List.{slice_get};
 ghost use Rattle.std.specs.Result.{result_err};
 ghost use Rattle.book.specs.Grid.{Grid, amounts};
 ghost use Rattle.requests.specs.Announcing.{changed_at};
-ghost use Rattle.gates.specs.Gates.{passing, given_status, outcome, has_balance, closed, cause, moved_on, settled, passed_on, passed_at, after_moves, gated, Judged};
+ghost use Rattle.gates.specs.Gates.{passing, outcome, closed, cause, moved_on, settled, passed_on, passed_at, after_moves, gated, Judged};
 
 use crate::gate::Gate;
 use book::interface::Book;
 use quantity::interface::Quantity;
 use record_list::interface::Records;
 use refusals::refusal::Refusal;
-use requests::request::{Request, Status};
+use requests::request::{Passage, Request, Status};
 use span_moves::spans::move_span;
 
 // The quantity that passes: what the giver announced last.
 fn passing_quantity<Q: Quantity>(giving: Option<Q::Row>) -> Q
     ensures { result ≡ passing Q.Quantity.measure giving }
 {
+    // Not `map_or`: the check does not cover a function passed there whose result alone names `Q`.
     match giving {
         Some(row) => Q::of_row(row),
         None => Q::zero(),
-    }
-}
-
-// Whether both sides announced equal quantities.
-fn is_balanced(status: Status) -> bool
-    ensures { result ≡ has_balance status }
-{
-    match status {
-        Status::BalanceOk => true,
-        _ => false,
     }
 }
 
@@ -37,9 +28,10 @@ fn is_balanced(status: Status) -> bool
 fn closed_status(gate: Gate, status: Status) -> Status
     ensures { result ≡ closed gate status }
 {
-    match (status, gate) {
-        (Status::WaitingForCounterpart, Gate::Second) => Status::Rejected(None),
-        (Status::BalanceError, Gate::Second) => Status::Rejected(None),
+    match status {
+        Status::WaitingForCounterpart | Status::BalanceError if gate == Gate::Second => {
+            Status::Rejected(None)
+        }
         _ => status,
     }
 }
@@ -64,30 +56,14 @@ fn make_move<O: Book>(obligations: &mut O, request: Request<<O::Q as Quantity>::
     ensures layer { O.Book.layer_number obligations.new ≡ O.Book.layer_number obligations.old }
 {
     let quantity = passing_quantity(request.giving);
-    let made = move_span(
-        obligations,
-        request.giver,
-        request.taker,
-        request.first,
-        request.last,
-        quantity,
-    );
+    let Passage {
+        giver,
+        taker,
+        first,
+        last,
+    } = request.passage;
+    let made = move_span(obligations, giver, taker, first, last, quantity);
     status_of_move(made)
-}
-
-// A request with another status.
-fn with_status<R: Copy>(request: Request<R>, status: Status) -> Request<R>
-    ensures { result ≡ given_status request status }
-{
-    Request {
-        giver: request.giver,
-        taker: request.taker,
-        first: request.first,
-        last: request.last,
-        giving: request.giving,
-        taking: request.taking,
-        status,
-    }
 }
 
 // Decides one request.
@@ -102,12 +78,11 @@ fn settle_request<O: Book>(
     ensures admission { O.Book.admission obligations.new ≡ O.Book.admission obligations.old }
     ensures layer { O.Book.layer_number obligations.new ≡ O.Book.layer_number obligations.old }
 {
-    let status = if is_balanced(request.status) {
-        make_move(obligations, request)
-    } else {
-        closed_status(gate, request.status)
+    let status = match request.status {
+        Status::BalanceOk => make_move(obligations, request),
+        status => closed_status(gate, status),
     };
-    with_status(request, status)
+    Request { status, ..request }
 }
 
 // Decides the request at a place.

@@ -20,9 +20,9 @@ returns g c =
       after =
           λ other e.
           told.after
-          ∙ ((λ i. unless_refused (move_refusal m held (g.O.Book.places c.args.obligations.now) (g.O.Book.admission c.args.obligations.now) r.giver r.taker r.first r.last (q i)) (moved m held r.giver r.taker (q i) r.first (r.last + 1)) (amounts m held))
-          ∙ (ap (λ o. unless_refused o (moved m held r.giver r.taker (passing m r.giving) r.first (r.last + 1)) (amounts m held)) (sym real ∙ told.alike other (passing m r.giving) e (ap m.amount (sym q)))
-          ∙ left_alike m held other (passing m r.giving) e (move_refusal m other (g.O.Book.places c.args.obligations.now) (g.O.Book.admission c.args.obligations.now) r.giver r.taker r.first r.last (passing m r.giving)) r.giver r.taker r.first (r.last + 1)));
+          ∙ ((λ i. unless_refused (move_refusal m held (g.O.Book.places c.args.obligations.now) (g.O.Book.admission c.args.obligations.now) r.passage.giver r.passage.taker r.passage.first r.passage.last (q i)) (moved m held r.passage.giver r.passage.taker (q i) r.passage.first (r.passage.last + 1)) (amounts m held))
+          ∙ (ap (λ o. unless_refused o (moved m held r.passage.giver r.passage.taker (passing m r.giving) r.passage.first (r.passage.last + 1)) (amounts m held)) (sym real ∙ told.alike other (passing m r.giving) e (ap m.amount (sym q)))
+          ∙ left_alike m held other (passing m r.giving) e (move_refusal m other (g.O.Book.places c.args.obligations.now) (g.O.Book.admission c.args.obligations.now) r.passage.giver r.passage.taker r.passage.first r.passage.last (passing m r.giving)) r.passage.giver r.passage.taker r.passage.first (r.passage.last + 1)));
       places = told.places;
       admission = told.admission;
       layer = told.layer;
