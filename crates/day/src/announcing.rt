@@ -1,6 +1,5 @@
 ghost use Rattle.std.specs.Prelude.{◌≡◌, IfOk};
 ghost use Rattle.std.specs.Result.{result_err};
-ghost use Rattle.refusals.specs.Numbers.{answer_number};
 ghost use Rattle.requests.specs.Announcing.{announcement_place};
 ghost use Rattle.day.specs.Announcing.{deadline_of, outline_refusal, announce_refusal, announced_list, announced_day};
 
@@ -108,7 +107,7 @@ impl<S: BeforeGate> InStage<S> {
         requests: &mut L,
         said: Announcement<Q>,
     ) -> Result<usize, Refusal>
-        ensures answer { answer_number (result_err result) ≡ answer_number (announce_refusal Q.Quantity.measure self.old.day S.joining said (L.Records.contents requests.old) (L.Records.places requests.old)) }
+        ensures answer { result_err result ≡ announce_refusal Q.Quantity.measure self.old.day S.joining said (L.Records.contents requests.old) (L.Records.places requests.old) }
         ensures place { IfOk result (λ p. p ≡ announcement_place S.joining (L.Records.contents requests.old) said.passage) }
         ensures contents { L.Records.contents requests.new ≡ announced_list Q.Quantity.measure self.old.day S.joining said (L.Records.contents requests.old) (L.Records.places requests.old) }
         ensures places { L.Records.places requests.new ≡ L.Records.places requests.old }

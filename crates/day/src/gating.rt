@@ -1,7 +1,6 @@
 ghost use Rattle.std.specs.Prelude.{◌≡◌, MatchResult, OnOk};
 ghost use Rattle.std.specs.Result.{result_err};
 ghost use Rattle.book.specs.Grid.{amounts};
-ghost use Rattle.refusals.specs.Numbers.{answer_number};
 ghost use Rattle.refusals.specs.First.{unless_refused};
 ghost use Rattle.gates.specs.Gates.{after_moves, gated, Judged};
 ghost use Rattle.day.specs.Announcing.{at_minute};
@@ -49,7 +48,7 @@ impl<S: BeforeGate> InStage<S> {
         requests: &mut L,
         minute: i32,
     ) -> Result<InStage<S::Next>, (InStage<S>, Refusal)>
-        ensures answer { answer_number (refusal_in result) ≡ answer_number (gate_refusal S.gate self.day minute) }
+        ensures answer { refusal_in result ≡ gate_refusal S.gate self.day minute }
         ensures day { MatchResult result (λ next. next.day ≡ at_minute self.day minute) (λ back. back.0.day ≡ self.day) }
         ensures requests { (L.Records.contents requests.new) ≡ unless_refused (gate_refusal S.gate self.day minute) (gated O.Q.Quantity.measure (O.Book.places obligations.old) (O.Book.admission obligations.old) S.gate (O.Book.holdings obligations.old) (L.Records.contents requests.old)) (L.Records.contents requests.old) }
         ensures after { amounts O.Q.Quantity.measure (O.Book.holdings obligations.new) ≡ unless_refused (gate_refusal S.gate self.day minute) (amounts O.Q.Quantity.measure (after_moves O.Q.Quantity.measure (O.Book.places obligations.old) (O.Book.admission obligations.old) (O.Book.holdings obligations.old) (L.Records.contents requests.old))) (amounts O.Q.Quantity.measure (O.Book.holdings obligations.old)) }
