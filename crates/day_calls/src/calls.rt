@@ -1,3 +1,7 @@
+ghost use Rattle.std.specs.Prelude.{◌≡◌};
+ghost use Rattle.day_calls.specs.declared.calls.NotDone.TheVariants.{Refused, NotCalled as NotMade};
+
+use awards::awarded::Award;
 use day::announcing::Announcement;
 use day::questions::Missing;
 use refusals::refusal::Refusal;
@@ -16,32 +20,14 @@ pub struct Prices {
 /// A call of one day.
 #[derive(Clone, Copy)]
 pub enum DayCall<Q> {
-    Open {
-        number: u8,
-        quarters: u8,
-    },
-    Award {
-        provider: u8,
-        block: u8,
-        quantity: Q,
-        prices: Prices,
-    },
+    Open { number: u8, quarters: u8 },
+    Award { award: Award<Q>, prices: Prices },
     Announce(Announcement<Q>),
     /// The first gate in the first stage, the second in the second.
-    Gate {
-        minute: i32,
-    },
-    Holding {
-        provider: u8,
-        quarter: u8,
-    },
-    Missing {
-        provider: u8,
-        quarter: u8,
-    },
-    Status {
-        place: usize,
-    },
+    Gate { minute: i32 },
+    Holding { provider: u8, quarter: u8 },
+    Missing { provider: u8, quarter: u8 },
+    Status { place: usize },
 }
 
 /// Why a call was not made. This is no refusal: nothing was asked of a day.
@@ -52,7 +38,7 @@ pub enum NotCalled {
     NoMemory,
 }
 
-/// What a call of a day answers.
+/// What a call of a day answers where it is taken.
 #[derive(Clone, Copy)]
 pub enum Answer<Q> {
     Opened,
@@ -63,6 +49,27 @@ pub enum Answer<Q> {
     Held(Q),
     Lacking(Missing),
     Standing(Status),
+}
+
+/// Why a call changes nothing.
+#[derive(Clone, Copy, PartialEq, Eq, Debug)]
+pub enum NotDone {
     Refused(Refusal),
     NotCalled(NotCalled),
+}
+
+impl From<Refusal> for NotDone {
+    ghost from_gives = { λ refusal e. e ≡ Refused refusal };
+
+    fn from(refusal: Refusal) -> NotDone {
+        NotDone::Refused(refusal)
+    }
+}
+
+impl From<NotCalled> for NotDone {
+    ghost from_gives = { λ why e. e ≡ NotMade why };
+
+    fn from(why: NotCalled) -> NotDone {
+        NotDone::NotCalled(why)
+    }
 }
