@@ -1,5 +1,5 @@
 -- What a day means, and what each call answers and makes of it.
-use Rattle.std.specs.Prelude.{ℕ, List, [], ◌∷◌, take, Option}
+use Rattle.std.specs.Prelude.{ℕ, List, [], ◌∷◌, Option}
 use Rattle.std.specs.List.{slice_get}
 use Rattle.quantity.specs.Measure.{Measure}
 use Rattle.book.specs.Grid.{Grid, amounts}
@@ -24,17 +24,12 @@ use Rattle.day.specs.Announcing.{at_minute, announce_refusal, announced_list, an
 use Rattle.day.specs.Opening.{opening_refusal, opened_day}
 use Rattle.day.specs.Questions.{question_refusal, lacking, status_refusal, status_of}
 use Rattle.day.specs.Gating.{gate_refusal}
-use Rattle.day_calls.specs.declared.calls.Prices.{Prices}
 use Rattle.day_calls.specs.declared.calls.DayCall.{DayCall}
 use Rattle.day_calls.specs.declared.calls.DayCall.TheVariants.{Open, Award as AwardCall, Announce, Gate as GateCall, Holding, Missing, Status}
 use Rattle.day_calls.specs.declared.desk.Desk.{Desk}
 use Rattle.day_calls.specs.declared.desk.Stage.{Stage}
 use Rattle.day_calls.specs.declared.desk.Stage.TheVariants.{Unopened, Announcing as InAnnouncing, Reconciling as InReconciling, Intraday as InIntraday}
 use Rattle.day_calls.specs.Answers.{Said, numbered, quantified, unless, not_in_stage}
-
--- the prices of a call, as a list
-abbrev pub price_list : Prices → List ℕ
-price_list prices = take prices.count prices.values
 
 -- by stages: before the opening, in the first stage, before a gate, once opened; else the last argument
 abbrev pub if_unopened : {A : Type 0} → Stage → A → A → A
@@ -95,8 +90,8 @@ module _ {Q R : Type 0} (m : Measure Q R) (tenths : Q → ℕ → ℕ) (directio
   abbrev pub open_refused : ℕ → ℕ → Option Refusal
   open_refused number quarters = opening_refusal m number quarters s.held s.bids s.requests
 
-  abbrev pub award_refused : Day → Award Q → Prices → Option Refusal
-  award_refused day a prices = award_refusal m s.held s.places s.admission directions day.quarters s.sheet.awards a.provider a.block a.quantity (price_list prices)
+  abbrev pub award_refused : Day → Award Q → List ℕ → Option Refusal
+  award_refused day a prices = award_refusal m s.held s.places s.admission directions day.quarters s.sheet.awards a.provider a.block a.quantity prices
 
   abbrev pub announce_refused : Gate → Day → Announcement Q → Option Refusal
   announce_refused gate day a = announce_refusal m day (joining_before gate) a s.requests s.room
@@ -108,7 +103,7 @@ module _ {Q R : Type 0} (m : Measure Q R) (tenths : Q → ℕ → ℕ) (directio
   -- what a call answers
   unfoldable pub answered : DayCall Q → Said Q
   answered (Open number quarters) = if_unopened s.stage (unless (open_refused number quarters) (numbered (0 ∷ (1 ∷ [])))) not_in_stage
-  answered (AwardCall a prices) = in_first s.stage (λ day. unless (award_refused day a prices) (numbered (0 ∷ (2 ∷ [])))) not_in_stage
+  answered (AwardCall a prices) = in_first s.stage (λ day. unless (award_refused day a prices.now) (numbered (0 ∷ (2 ∷ [])))) not_in_stage
   answered (Announce a) =
       before_gate s.stage (λ gate day. unless (announce_refused gate day a) (numbered (0 ∷ (3 ∷ (announcement_place (joining_before gate) s.requests a.passage ∷ []))))) not_in_stage
   answered (GateCall minute) = before_gate s.stage (λ gate day. unless (gate_refusal gate day minute) (numbered (0 ∷ (4 ∷ [])))) not_in_stage
@@ -130,7 +125,7 @@ module _ {Q R : Type 0} (m : Measure Q R) (tenths : Q → ℕ → ℕ) (directio
   unfoldable pub held_after : DayCall Q → Grid m.Amount
   held_after (Open number quarters) = amounts m s.held
   held_after (AwardCall a prices) =
-      in_first s.stage (λ day. award_after m s.held s.places s.admission directions day.quarters s.sheet.awards a.provider a.block a.quantity (price_list prices)) (amounts m s.held)
+      in_first s.stage (λ day. award_after m s.held s.places s.admission directions day.quarters s.sheet.awards a.provider a.block a.quantity prices.now) (amounts m s.held)
   held_after (Announce a) = amounts m s.held
   held_after (GateCall minute) = before_gate s.stage (λ gate day. unless_refused (gate_refusal gate day minute) (amounts m (after_moves m s.places s.admission s.held s.requests)) (amounts m s.held)) (amounts m s.held)
   held_after (Holding p t) = amounts m s.held
@@ -151,7 +146,7 @@ module _ {Q R : Type 0} (m : Measure Q R) (tenths : Q → ℕ → ℕ) (directio
   unfoldable pub sheet_after : DayCall Q → SheetView
   sheet_after (Open number quarters) = if_unopened s.stage (unless_refused (open_refused number quarters) blank_view s.sheet) s.sheet
   sheet_after (AwardCall a prices) =
-      in_first s.stage (λ day. award_sheet m s.held s.places s.admission tenths directions day.quarters a.provider a.block a.quantity (price_list prices) s.sheet) s.sheet
+      in_first s.stage (λ day. award_sheet m s.held s.places s.admission tenths directions day.quarters a.provider a.block a.quantity prices.now s.sheet) s.sheet
   sheet_after (Announce a) = s.sheet
   sheet_after (GateCall minute) = s.sheet
   sheet_after (Holding p t) = s.sheet

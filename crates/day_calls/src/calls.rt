@@ -7,21 +7,12 @@ use day::questions::Missing;
 use refusals::refusal::Refusal;
 use requests::request::Status;
 
-/// How many prices a call can hold: one more than any call takes.
-pub const MOST_PRICES: usize = 13;
-
-/// The prices of a call in their order: the first `count`, or all where `count` is larger.
-#[derive(Clone, Copy)]
-pub struct Prices {
-    pub values: [u32; 13],
-    pub count: usize,
-}
-
 /// A call of one day.
 #[derive(Clone, Copy)]
-pub enum DayCall<Q> {
+pub enum DayCall<'a, Q> {
     Open { number: u8, quarters: u8 },
-    Award { award: Award<Q>, prices: Prices },
+    /// An award at a price for each direction.
+    Award { award: Award<Q>, prices: &'a [u32] },
     Announce(Announcement<Q>),
     /// The first gate in the first stage, the second in the second.
     Gate { minute: i32 },

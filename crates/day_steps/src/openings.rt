@@ -6,13 +6,13 @@ ghost use Rattle.awards.specs.Awards.{award_refusal, award_after, award_sheet};
 ghost use Rattle.gates.specs.declared.gate.Gate.TheVariants.{First};
 ghost use Rattle.day.specs.Opening.{opening_refusal, opened_day};
 ghost use Rattle.day_calls.specs.Answers.{said, numbered, unless, not_in_stage};
-ghost use Rattle.day_calls.specs.Days.{price_list, if_unopened, in_first, same_stage};
+ghost use Rattle.day_calls.specs.Days.{if_unopened, in_first, same_stage};
 
 use awards::awarded::Award;
 use awards::sheet::Sheet;
 use book::interface::Book;
 use day::stages::Announcing;
-use day_calls::calls::{Answer, NotCalled, NotDone, Prices};
+use day_calls::calls::{Answer, NotCalled, NotDone};
 use day_calls::desk::Stage;
 use quantity::interface::Quantity;
 use quantity::reserve::ReserveQuantity;
@@ -40,36 +40,26 @@ pub fn open_step<O: Book, B: Book<Q = O::Q>, L: Records>(
     Ok(Answer::Opened)
 }
 
-// The prices of a call, as a slice.
-fn price_slice(prices: &Prices) -> &[u32]
-    ensures { result.now ≡ price_list prices.now }
-{
-    if prices.count < 13 {
-        return &prices.values[0..prices.count];
-    }
-    &prices.values
-}
-
 /// Awards a quantity in the first stage.
 pub fn award_step<O: Book>(
     stage: &Stage,
     obligations: &mut O,
     sheet: &mut Sheet,
     award: Award<O::Q>,
-    prices: &Prices,
+    prices: &[u32],
 ) -> Result<Answer<O::Q>, NotDone>
 where
     O::Q: ReserveQuantity,
-    ensures answer { said result ≡ in_first stage.now (λ day. unless (award_refusal O.Q.Quantity.measure (O.Book.holdings obligations.old) (O.Book.places obligations.old) (O.Book.admission obligations.old) O.Q.ReserveQuantity.directions day.quarters (view sheet.old).awards award.provider award.block award.quantity (price_list prices.now)) (numbered (0 ∷ (2 ∷ [])))) not_in_stage }
-    ensures after { amounts O.Q.Quantity.measure (O.Book.holdings obligations.new) ≡ in_first stage.now (λ day. award_after O.Q.Quantity.measure (O.Book.holdings obligations.old) (O.Book.places obligations.old) (O.Book.admission obligations.old) O.Q.ReserveQuantity.directions day.quarters (view sheet.old).awards award.provider award.block award.quantity (price_list prices.now)) (amounts O.Q.Quantity.measure (O.Book.holdings obligations.old)) }
+    ensures answer { said result ≡ in_first stage.now (λ day. unless (award_refusal O.Q.Quantity.measure (O.Book.holdings obligations.old) (O.Book.places obligations.old) (O.Book.admission obligations.old) O.Q.ReserveQuantity.directions day.quarters (view sheet.old).awards award.provider award.block award.quantity prices.now) (numbered (0 ∷ (2 ∷ [])))) not_in_stage }
+    ensures after { amounts O.Q.Quantity.measure (O.Book.holdings obligations.new) ≡ in_first stage.now (λ day. award_after O.Q.Quantity.measure (O.Book.holdings obligations.old) (O.Book.places obligations.old) (O.Book.admission obligations.old) O.Q.ReserveQuantity.directions day.quarters (view sheet.old).awards award.provider award.block award.quantity prices.now) (amounts O.Q.Quantity.measure (O.Book.holdings obligations.old)) }
     ensures places { O.Book.places obligations.new ≡ O.Book.places obligations.old }
     ensures admission { O.Book.admission obligations.new ≡ O.Book.admission obligations.old }
     ensures layer { O.Book.layer_number obligations.new ≡ O.Book.layer_number obligations.old }
-    ensures sheet { view sheet.new ≡ in_first stage.now (λ day. award_sheet O.Q.Quantity.measure (O.Book.holdings obligations.old) (O.Book.places obligations.old) (O.Book.admission obligations.old) O.Q.ReserveQuantity.tenths_in O.Q.ReserveQuantity.directions day.quarters award.provider award.block award.quantity (price_list prices.now) (view sheet.old)) (view sheet.old) }
+    ensures sheet { view sheet.new ≡ in_first stage.now (λ day. award_sheet O.Q.Quantity.measure (O.Book.holdings obligations.old) (O.Book.places obligations.old) (O.Book.admission obligations.old) O.Q.ReserveQuantity.tenths_in O.Q.ReserveQuantity.directions day.quarters award.provider award.block award.quantity prices.now (view sheet.old)) (view sheet.old) }
 {
     let Stage::Announcing(announcing) = stage else {
         return Err(NotCalled::NotInThisStage.into());
     };
-    announcing.award(obligations, sheet, award, price_slice(prices))?;
+    announcing.award(obligations, sheet, award, prices)?;
     Ok(Answer::Awarded)
 }
