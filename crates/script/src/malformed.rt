@@ -1,3 +1,4 @@
+use quantity::direction::UnknownDirection;
 use std::fmt;
 
 /// What is wrong with a line that is not understood.
@@ -19,6 +20,12 @@ pub enum Malformed {
     LimitTooLarge,
     QuantityTooLarge,
     WrongDirections,
+}
+
+impl From<UnknownDirection> for Malformed {
+    fn from(_unknown: UnknownDirection) -> Malformed {
+        Malformed::UnknownDirection
+    }
 }
 
 impl fmt::Display for Malformed {
