@@ -27,7 +27,7 @@ module _ {Q : Type 0} (table : LimitTable) (layer : ℕ) (below : ℕ → ℕ �
   limited_alike q other e h = ap (λ a. over a (own (tenths other 0) (tenths other 1))) e ∙ (ap (λ n. over (below p t q) (own n (tenths other 1))) (h 0) ∙ ap (λ n. over (below p t q) (own (tenths q 0) n)) (h 1))
 
   over_no : (a : Admission) (cause : Cause) (b : Admission) → 1 ∷ cause_number cause ≡ admission_number a → 1 ∷ cause_number cause ≡ admission_number (over a b)
-  over_no None cause b e = absurd (let z : ◌≡◌ {A = ℕ} 0 1 = cc in omega arith)
+  over_no None cause b e = cc
   over_no (Some c) cause b e = e
 
   module _ (inside : in_range p t ≡ true) (q : Q) where
