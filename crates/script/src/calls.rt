@@ -1,5 +1,6 @@
+ghost use Rattle.std.specs.Prelude.{◌≡◌, Some};
 ghost use Rattle.script.specs.declared.calls.NotDone.TheVariants.{Book, Span};
-ghost use Rattle.std.specs.Prelude.{◌≡◌};
+ghost use Rattle.script.specs.Texts.{answer_text, not_done_text};
 
 use book::answers::BookRefusal;
 use refusals::refusal::Refusal;
@@ -68,6 +69,8 @@ impl From<Refusal> for NotDone {
 }
 
 impl<Q: fmt::Display> fmt::Display for Answer<Q> {
+    ghost output = { λ x. answer_text Q.output x };
+
     fn fmt<W: fmt::Write>(&self, f: &mut fmt::Formatter<W>) -> fmt::Result {
         match self {
             Answer::Raised => write!(f, "raised"),
@@ -80,6 +83,8 @@ impl<Q: fmt::Display> fmt::Display for Answer<Q> {
 }
 
 impl fmt::Display for NotDone {
+    ghost output = { λ x. Some (not_done_text x) };
+
     fn fmt<W: fmt::Write>(&self, f: &mut fmt::Formatter<W>) -> fmt::Result {
         match self {
             NotDone::Book(refusal) => write!(f, "{refusal}"),

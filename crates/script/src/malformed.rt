@@ -23,6 +23,11 @@ pub enum Malformed {
 }
 
 impl From<UnknownDirection> for Malformed {
+    ghost use Rattle.std.specs.Prelude.{◌≡◌};
+    ghost use Rattle.script.specs.declared.malformed.Malformed.TheVariants.{UnknownDirection};
+
+    ghost from_gives = { λ _ what. what ≡ UnknownDirection };
+
     fn from(_unknown: UnknownDirection) -> Malformed {
         Malformed::UnknownDirection
     }

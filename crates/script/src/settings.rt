@@ -1,3 +1,7 @@
+ghost use Rattle.std.specs.Prelude.{Some};
+ghost use Rattle.script.specs.Texts.{service_text, bottom_text, switch_text, setting_text};
+ghost use Rattle.script.specs.Reading.{ReadsService, ReadsSwitch};
+
 use crate::malformed::Malformed;
 use quantity::direction::Direction;
 use std::fmt;
@@ -48,6 +52,8 @@ pub enum Line {
 impl FromStr for Service {
     type Err = Malformed;
 
+    ghost from_str_gives = { ReadsService };
+
     fn from_str(word: &str) -> Result<Service, Malformed> {
         match word {
             "fcr" => Ok(Service::Fcr),
@@ -60,6 +66,8 @@ impl FromStr for Service {
 impl FromStr for Switch {
     type Err = Malformed;
 
+    ghost from_str_gives = { ReadsSwitch };
+
     fn from_str(word: &str) -> Result<Switch, Malformed> {
         match word {
             "on" => Ok(Switch::On),
@@ -70,6 +78,8 @@ impl FromStr for Switch {
 }
 
 impl fmt::Display for Service {
+    ghost output = { λ x. Some (service_text x) };
+
     fn fmt<W: fmt::Write>(&self, f: &mut fmt::Formatter<W>) -> fmt::Result {
         match self {
             Service::Fcr => write!(f, "fcr"),
@@ -79,6 +89,8 @@ impl fmt::Display for Service {
 }
 
 impl fmt::Display for Bottom {
+    ghost output = { λ x. Some (bottom_text x) };
+
     fn fmt<W: fmt::Write>(&self, f: &mut fmt::Formatter<W>) -> fmt::Result {
         match self {
             Bottom::Full => write!(f, "full"),
@@ -88,6 +100,8 @@ impl fmt::Display for Bottom {
 }
 
 impl fmt::Display for Switch {
+    ghost output = { λ x. Some (switch_text x) };
+
     fn fmt<W: fmt::Write>(&self, f: &mut fmt::Formatter<W>) -> fmt::Result {
         match self {
             Switch::On => write!(f, "on"),
@@ -98,6 +112,8 @@ impl fmt::Display for Switch {
 
 /// What is answered once the setting is taken.
 impl fmt::Display for Setting {
+    ghost output = { λ x. Some (setting_text x) };
+
     fn fmt<W: fmt::Write>(&self, f: &mut fmt::Formatter<W>) -> fmt::Result {
         match self {
             Setting::Service(service) => write!(f, "service {service}"),
