@@ -1,5 +1,5 @@
 -- What the number of an admission tells of it.
-use Rattle.std.proofs.Common.{◌≡◌, ℕ, cond, eqb, List, [], ◌∷◌, get_or, sym, refl, ap, ◌∙◌, arith, Some, None}
+use Rattle.std.proofs.Common.{◌≡◌, ℕ, cond, eqb, List, [], ◌∷◌, get_or, sym, refl, ap, ◌∙◌, Some, None}
 use Rattle.quantity.specs.declared.direction.Direction.TheVariants.{Up, Down}
 use Rattle.book.specs.Numbers.{cause_number, admission_number}
 use Rattle.book.specs.declared.answers.Cause.{Cause}
@@ -8,10 +8,10 @@ use Rattle.book.specs.Admissions.{Admission}
 
 pub admission_yes : (a : Admission) → 0 ∷ [] ≡ admission_number a → a ≡ None
 admission_yes None e = refl
-admission_yes (Some cause) e = absurd (let z : ◌≡◌ {A = ℕ} 0 1 = cc in omega arith)
+admission_yes (Some cause) e = cc
 
 pub admission_no : (a : Admission) (cause : Cause) → 1 ∷ cause_number cause ≡ admission_number a → (c : Cause) × (a ≡ Some c) × (cause_number cause ≡ cause_number c)
-admission_no None cause e = absurd (let z : ◌≡◌ {A = ℕ} 0 1 = cc in omega arith)
+admission_no None cause e = cc
 admission_no (Some c) cause e = (c, refl, cc)
 
 -- the cause that a number with its values tells
@@ -27,6 +27,6 @@ cause_once c d e = sym (cause_again c) ∙ (ap cause_of e ∙ cause_again d)
 
 pub admission_once : (a b : Admission) → admission_number a ≡ admission_number b → a ≡ b
 admission_once None None e = refl
-admission_once None (Some d) e = absurd (let z : ◌≡◌ {A = ℕ} 0 1 = cc in omega arith)
-admission_once (Some c) None e = absurd (let z : ◌≡◌ {A = ℕ} 0 1 = cc in omega arith)
+admission_once None (Some d) e = cc
+admission_once (Some c) None e = cc
 admission_once (Some c) (Some d) e = ap Some (cause_once c d (cc))

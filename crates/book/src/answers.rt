@@ -1,6 +1,6 @@
 ghost use Rattle.std.specs.Prelude.{◌≡◌, Some};
 ghost use Rattle.book.specs.declared.answers.BookRefusal.TheVariants.{NotAdmitted};
-ghost use Rattle.book.specs.Texts.{cause_text};
+ghost use Rattle.book.specs.Texts.{cause_text, refusal_text};
 
 use quantity::direction::Direction;
 use std::fmt;
@@ -41,6 +41,8 @@ impl fmt::Display for Cause {
 }
 
 impl fmt::Display for BookRefusal {
+    ghost output = { λ x. Some (refusal_text x) };
+
     fn fmt<W: fmt::Write>(&self, f: &mut fmt::Formatter<W>) -> fmt::Result {
         match *self {
             BookRefusal::OutsideRange => write!(f, "outside-range"),

@@ -10,13 +10,17 @@ use std::process::Abort;
 // What a call answers, and the holding and the free places after it.
 type Outcome = (Result<(), BookRefusal>, u16, usize);
 
-fn raise(book: &mut FullBook<Volume>, provider: u8, quarter: u8, tenths: u16) -> Outcome {
-    let answer = book.raise(provider, quarter, Volume::of_row(tenths));
-    (answer, book.holding(provider, quarter).up(), book.free())
-}
-
-fn lower(book: &mut FullBook<Volume>, provider: u8, quarter: u8, tenths: u16) -> Outcome {
-    let answer = book.lower(provider, quarter, Volume::of_row(tenths));
+// Changes a holding of a book by the tenths.
+fn change<B: Book<Q = Volume>, F: FnOnce(&mut B, u8, u8, Volume) -> Result<(), BookRefusal>>(
+    book: &mut B,
+    call: F,
+    provider: u8,
+    quarter: u8,
+    tenths: u16,
+) -> Outcome
+    requires { F.IsAlwaysCallable call }
+{
+    let answer = call(book, provider, quarter, Volume::of_row(tenths));
     (answer, book.holding(provider, quarter).up(), book.free())
 }
 
@@ -31,7 +35,10 @@ fn each_is(rt: &impl Abort, rows: &[u16], told: u16) {
 fn no_place_over_too_few_rows(rt: HostRuntime) {
     let mut rows = [7u16; 3199];
     let mut book: FullBook<Volume> = FullBook::blank(&mut rows);
-    let answers = [raise(&mut book, 0, 0, 1), raise(&mut book, 0, 0, 0)];
+    let answers = [
+        change(&mut book, Book::raise, 0, 0, 1),
+        change(&mut book, Book::raise, 0, 0, 0),
+    ];
     assert_eq!(rt;
         answers,
         [(Err(BookRefusal::NoFreePlace), 0, 0), (Ok(()), 0, 0)]
@@ -44,9 +51,9 @@ fn blank_then_raise_and_lower(rt: HostRuntime) {
     let mut rows = [9999u16; 3200];
     let mut book: FullBook<Volume> = FullBook::blank(&mut rows);
     let answers = [
-        raise(&mut book, 3, 7, 100),
-        lower(&mut book, 3, 7, 40),
-        lower(&mut book, 3, 7, 60),
+        change(&mut book, Book::raise, 3, 7, 100),
+        change(&mut book, Book::lower, 3, 7, 40),
+        change(&mut book, Book::lower, 3, 7, 60),
     ];
     assert_eq!(rt;
         answers,
@@ -60,10 +67,10 @@ fn refused_calls_change_nothing(rt: HostRuntime) {
     let mut rows = [60u16; 4000];
     let mut book: FullBook<Volume> = FullBook::over(&mut rows);
     let answers = [
-        raise(&mut book, 3, 7, 9941),
-        lower(&mut book, 3, 7, 61),
-        raise(&mut book, 32, 0, 1),
-        lower(&mut book, 0, 100, 1),
+        change(&mut book, Book::raise, 3, 7, 9941),
+        change(&mut book, Book::lower, 3, 7, 61),
+        change(&mut book, Book::raise, 32, 0, 1),
+        change(&mut book, Book::lower, 0, 100, 1),
     ];
     assert_eq!(rt;
         answers,
@@ -81,7 +88,10 @@ fn refused_calls_change_nothing(rt: HostRuntime) {
 fn rows_beyond_are_untouched(rt: HostRuntime) {
     let mut rows = [77u16; 4000];
     let mut book: FullBook<Volume> = FullBook::blank(&mut rows);
-    let answers = [raise(&mut book, 31, 99, 5), lower(&mut book, 31, 99, 2)];
+    let answers = [
+        change(&mut book, Book::raise, 31, 99, 5),
+        change(&mut book, Book::lower, 31, 99, 2),
+    ];
     assert_eq!(rt; answers, [(Ok(()), 5, 3199), (Ok(()), 3, 3199)]);
     assert_eq!(rt; rows[3199], 3);
     each_is(&rt, &rows[3200..4000], 77);
@@ -93,7 +103,10 @@ fn over_rows_as_they_are(rt: HostRuntime) {
     rows[0] = 10_000;
     rows[1] = 10_001;
     let mut book: FullBook<Volume> = FullBook::over(&mut rows);
-    let answers = [raise(&mut book, 0, 0, 0), raise(&mut book, 0, 1, 5)];
+    let answers = [
+        change(&mut book, Book::raise, 0, 0, 0),
+        change(&mut book, Book::raise, 0, 1, 5),
+    ];
     assert_eq!(rt; answers, [(Ok(()), 10_000, 3199), (Ok(()), 5, 3198)]);
 }
 

@@ -1,3 +1,5 @@
 #![tactic(auto)]
 
+mod choice;
+mod fault;
 pub mod session;

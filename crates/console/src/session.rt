@@ -1,16 +1,18 @@
+use crate::choice::Choice;
+use crate::fault::Fault;
 use book::interface::Book;
 use full_book::stored::StoredFullBook;
 use limit_layer::layer::LimitLayer;
-use limit_layer::table::LimitTable;
 use quantity::afrr::Band;
 use quantity::fcr::Volume;
-use script::calls::{Answer, Call};
-use script::malformed::Malformed;
+use script::calls::Answer;
 use script::perform::perform;
 use script::quantities::Written;
 use script::reading::{read_call, read_line};
-use script::settings::{Bottom, Line, Service, Setting};
+use script::settings::{Bottom, Line, Service, Setting, Switch};
 use sparse_book::stored::StoredSparseBook;
+use std::io::Read;
+use std::{fmt, io};
 
 /// How many calls were taken and refused, and how many lines were not understood.
 #[derive(Clone, Copy, PartialEq, Eq, Debug)]
@@ -20,262 +22,154 @@ pub struct Tally {
     pub not_understood: u64,
 }
 
-/// What the script has chosen so far.
-#[derive(Clone, Copy)]
-struct Choice {
-    service: Option<Service>,
-    bottom: Bottom,
-    limited: bool,
-    limits: LimitTable,
-}
-
-fn show_malformed(
-    rt: &HostRuntime,
-    place: usize,
-    what: Malformed,
-    tally: &mut Tally,
-) -> anyhow::Result<()> {
-    let number = place.saturating_add(1);
-    tally.not_understood = tally.not_understood.saturating_add(1);
-    println!(rt; "line {number}: {what}")?;
-    Ok(())
-}
-
-fn show_answer<Q: Written>(
-    rt: &HostRuntime,
-    answer: Answer<Q>,
-    tally: &mut Tally,
-) -> anyhow::Result<()> {
-    match answer {
-        Answer::Refused(refusal) => {
-            tally.refused = tally.refused.saturating_add(1);
-            println!(rt; "refused {refusal}")?;
-            return Ok(());
-        }
-        Answer::NotMoved(refusal) => {
-            tally.refused = tally.refused.saturating_add(1);
-            println!(rt; "refused {refusal}")?;
-            return Ok(());
-        }
-        Answer::Raised => println!(rt; "raised")?,
-        Answer::Lowered => println!(rt; "lowered")?,
-        Answer::Moved => println!(rt; "moved")?,
-        Answer::Held(quantity) => {
-            let text = quantity.text(rt.alloc())?;
-            println!(rt; "holding {text}")?;
-        }
-        Answer::FreePlaces(places) => println!(rt; "free {places}")?,
-    }
-    tally.taken = tally.taken.saturating_add(1);
-    Ok(())
-}
-
-fn show_choice(rt: &HostRuntime, setting: Setting) -> anyhow::Result<()> {
-    match setting {
-        Setting::Service(Service::Fcr) => println!(rt; "service fcr")?,
-        Setting::Service(Service::Afrr) => println!(rt; "service afrr")?,
-        Setting::Books(Bottom::Full) => println!(rt; "books full")?,
-        Setting::Books(Bottom::Sparse(places)) => println!(rt; "books sparse {places}")?,
-        Setting::Limits(true) => println!(rt; "limits on")?,
-        Setting::Limits(false) => println!(rt; "limits off")?,
-        Setting::Limit { .. } => println!(rt; "limit set")?,
-    }
-    Ok(())
-}
-
-// Takes a setting, or refuses a limit of a provider that there is not.
-fn choose(
-    rt: &HostRuntime,
-    setting: Setting,
-    choice: &mut Choice,
-    tally: &mut Tally,
-) -> anyhow::Result<()> {
-    match setting {
-        Setting::Service(service) => choice.service = Some(service),
-        Setting::Books(bottom) => choice.bottom = bottom,
-        Setting::Limits(limited) => choice.limited = limited,
-        Setting::Limit {
-            provider,
-            direction,
-            tenths,
-        } => {
-            if choice.limits.set(provider, direction, tenths).is_err() {
-                tally.refused = tally.refused.saturating_add(1);
-                println!(rt; "refused 4")?;
-                return Ok(());
-            }
-        }
-    }
-    tally.taken = tally.taken.saturating_add(1);
-    show_choice(rt, setting)
-}
-
-// What keeps a setting from being taken before the first call: the service comes first, and once.
-fn early_fault(choice: &Choice, setting: Setting) -> Option<Malformed> {
-    match (choice.service, setting) {
-        (None, Setting::Service(_)) => None,
-        (None, _) => Some(Malformed::ServiceFirst),
-        (Some(_), Setting::Service(_)) => Some(Malformed::ServiceAgain),
-        (Some(_), _) => None,
+impl fmt::Display for Tally {
+    fn fmt<W: fmt::Write>(&self, f: &mut fmt::Formatter<W>) -> fmt::Result {
+        let Tally {
+            taken,
+            refused,
+            not_understood,
+        } = *self;
+        write!(
+            f,
+            "taken {taken} refused {refused} not understood {not_understood}"
+        )
     }
 }
 
-// What is wrong with a call, if it cannot be read in this service.
-fn call_fault<Q: Written>(line: &str) -> Option<Malformed> {
-    let call: Result<Call<Q>, Malformed> = read_call(line);
-    match call {
-        Ok(_) => None,
-        Err(what) => Some(what),
-    }
-}
-
-// What is wrong with the first call, if anything is: no service is chosen yet, or it cannot be read.
-fn first_fault(choice: &Choice, line: &str) -> Option<Malformed> {
-    match choice.service {
-        None => Some(Malformed::ServiceFirst),
-        Some(Service::Fcr) => call_fault::<Volume>(line),
-        Some(Service::Afrr) => call_fault::<Band>(line),
-    }
-}
-
-// Takes the settings of a script up to its first call, and tells that call's place.
-fn settle_choice(
-    rt: &HostRuntime,
-    text: &str,
-    choice: &mut Choice,
-    tally: &mut Tally,
-) -> anyhow::Result<Option<usize>> {
-    for (place, line) in text.lines().enumerate() {
-        match read_line(line) {
-            Ok(Line::Blank) => {}
-            Ok(Line::Setting(setting)) => match early_fault(choice, setting) {
-                None => choose(rt, setting, choice, tally)?,
-                Some(what) => show_malformed(rt, place, what, tally)?,
-            },
-            Ok(Line::Call) => match first_fault(choice, line) {
-                None => return Ok(Some(place)),
-                Some(what) => show_malformed(rt, place, what, tally)?,
-            },
-            Err(what) => show_malformed(rt, place, what, tally)?,
-        }
-    }
-    Ok(None)
-}
-
-// What keeps a setting from being taken once the books are open: only a limit is, for books opened later.
-fn late_fault(setting: Setting) -> Option<Malformed> {
-    match setting {
-        Setting::Service(_) => Some(Malformed::ServiceAgain),
-        Setting::Books(_) => Some(Malformed::BooksOpen),
-        Setting::Limits(_) => Some(Malformed::BooksOpen),
-        Setting::Limit { .. } => None,
-    }
+// A run of a script: where it prints and allocates, what it has chosen, and what its lines came to so far.
+#[derive(Drop)]
+struct Session<'a, R> {
+    rt: &'a R,
+    choice: Choice,
+    tally: Tally,
 }
 
 // Makes the call of a line.
-fn run_call<B: Book>(
-    rt: &HostRuntime,
-    place: usize,
-    line: &str,
-    book: &mut B,
-    tally: &mut Tally,
-) -> anyhow::Result<()>
+fn call_book<B: Book>(book: &mut B, line: &str) -> Result<Answer<B::Q>, Fault>
 where
     B::Q: Written,
 {
-    match read_call(line) {
-        Ok(call) => show_answer(rt, perform(book, call), tally),
-        Err(what) => show_malformed(rt, place, what, tally),
-    }
+    Ok(perform(book, read_call(line)?)?)
 }
 
-// Makes the calls of the lines from a place on.
-fn run_calls<B: Book>(
-    rt: &HostRuntime,
-    text: &str,
-    from: usize,
-    book: &mut B,
-    choice: &mut Choice,
-    tally: &mut Tally,
-) -> anyhow::Result<()>
-where
-    B::Q: Written,
-{
-    for (place, line) in text.lines().enumerate().skip(from) {
+impl<'a, R: Print + AllocGlobal> Session<'a, R> {
+    // Prints what a line comes to, and counts it.
+    fn tell<T: fmt::Display + Drop>(
+        &mut self,
+        place: usize,
+        outcome: Result<T, Fault>,
+    ) -> io::Result<()> {
+        match outcome {
+            Ok(done) => {
+                self.tally.taken = self.tally.taken.saturating_add(1);
+                println!(self.rt; "{done}")
+            }
+            Err(Fault::Refused(not_done)) => {
+                self.tally.refused = self.tally.refused.saturating_add(1);
+                println!(self.rt; "refused {not_done}")
+            }
+            Err(Fault::Malformed(what)) => {
+                self.tally.not_understood = self.tally.not_understood.saturating_add(1);
+                let number = place.saturating_add(1);
+                println!(self.rt; "line {number}: {what}")
+            }
+        }
+    }
+
+    // Takes the settings of a script up to its first call, and tells that call's place and service.
+    fn settle(&mut self, text: &str) -> io::Result<Option<(usize, Service)>> {
+        for (place, line) in text.lines().enumerate() {
+            let outcome = match read_line(line) {
+                Ok(Line::Blank) => continue,
+                Ok(Line::Setting(setting)) => self.choice.take_early(setting),
+                Ok(Line::Call) => match self.choice.open(line) {
+                    Ok(service) => return Ok(Some((place, service))),
+                    Err(what) => Err(Fault::from(what)),
+                },
+                Err(what) => Err(Fault::from(what)),
+            };
+            self.tell(place, outcome)?;
+        }
+        Ok(None)
+    }
+
+    // Does a line once the books are open.
+    fn run_line<B: Book>(&mut self, place: usize, line: &str, book: &mut B) -> io::Result<()>
+    where
+        B::Q: Written,
+    {
         match read_line(line) {
-            Ok(Line::Blank) => {}
-            Ok(Line::Setting(setting)) => match late_fault(setting) {
-                None => choose(rt, setting, choice, tally)?,
-                Some(what) => show_malformed(rt, place, what, tally)?,
-            },
-            Ok(Line::Call) => run_call(rt, place, line, book, tally)?,
-            Err(what) => show_malformed(rt, place, what, tally)?,
+            Ok(Line::Blank) => Ok(()),
+            Ok(Line::Setting(setting)) => {
+                let outcome = self.choice.take_late(setting);
+                self.tell(place, outcome)
+            }
+            Ok(Line::Call) => self.tell(place, call_book(book, line)),
+            Err(what) => self.tell::<Setting>(place, Err(Fault::from(what))),
         }
     }
-    Ok(())
-}
 
-// Makes the chosen pile of books and runs the calls over it.
-fn run_pile<K: Written>(
-    rt: &HostRuntime,
-    text: &str,
-    from: usize,
-    choice: &mut Choice,
-    tally: &mut Tally,
-) -> anyhow::Result<()> {
-    match (choice.bottom, choice.limited) {
-        (Bottom::Full, false) => {
-            let mut book: StoredFullBook<K> = StoredFullBook::new(rt.alloc())?;
-            run_calls(rt, text, from, &mut book, choice, tally)
+    // Does the lines from a place on.
+    fn run_lines<B: Book>(&mut self, text: &str, from: usize, mut book: B) -> io::Result<()>
+    where
+        B: Drop,
+        B::Q: Written,
+    {
+        for (place, line) in text.lines().enumerate().skip(from) {
+            self.run_line(place, line, &mut book)?;
         }
-        (Bottom::Full, true) => {
-            let below: StoredFullBook<K> = StoredFullBook::new(rt.alloc())?;
-            let mut book = LimitLayer::new(below, choice.limits);
-            run_calls(rt, text, from, &mut book, choice, tally)
+        Ok(())
+    }
+
+    // Puts the limits over the book if they are on, and runs the lines from a place on.
+    fn run_over<B: Book + Drop>(&mut self, text: &str, from: usize, below: B) -> io::Result<()>
+    where
+        B::Q: Written,
+    {
+        match self.choice.limited {
+            Switch::Off => self.run_lines(text, from, below),
+            Switch::On => self.run_lines(text, from, LimitLayer::new(below, self.choice.limits)),
         }
-        (Bottom::Sparse(places), false) => {
-            let mut book: StoredSparseBook<K> = StoredSparseBook::new(
-                rt.alloc(),
-                usize::from(places),
-            )?;
-            run_calls(rt, text, from, &mut book, choice, tally)
-        }
-        (Bottom::Sparse(places), true) => {
-            let below: StoredSparseBook<K> = StoredSparseBook::new(
-                rt.alloc(),
-                usize::from(places),
-            )?;
-            let mut book = LimitLayer::new(below, choice.limits);
-            run_calls(rt, text, from, &mut book, choice, tally)
+    }
+
+    // Makes the chosen book and runs the lines from a place on over it.
+    fn run_books<K: Written>(&mut self, text: &str, from: usize) -> io::Result<()> {
+        let heap = self.rt.alloc();
+        match self.choice.bottom {
+            Bottom::Full => self.run_over(text, from, StoredFullBook::<K>::new(heap)?),
+            Bottom::Sparse(places) => {
+                let book = StoredSparseBook::<K>::new(heap, usize::from(places))?;
+                self.run_over(text, from, book)
+            }
         }
     }
 }
 
 /// Runs a script over the books that it chooses, prints what each call answers, and sums up.
-pub fn run_script(rt: &HostRuntime, text: &str) -> anyhow::Result<Tally> {
-    let mut tally = Tally {
-        taken: 0,
-        refused: 0,
-        not_understood: 0,
+pub fn run_script(rt: &(impl Print + AllocGlobal), text: &str) -> anyhow::Result<Tally> {
+    let mut session = Session {
+        rt,
+        choice: Choice::new(),
+        tally: Tally {
+            taken: 0,
+            refused: 0,
+            not_understood: 0,
+        },
     };
-    let mut choice = Choice {
-        service: None,
-        bottom: Bottom::Full,
-        limited: false,
-        limits: LimitTable::new(),
-    };
-    if let Some(from) = settle_choice(rt, text, &mut choice, &mut tally)? {
-        match choice.service {
-            Some(Service::Fcr) => run_pile::<Volume>(rt, text, from, &mut choice, &mut tally)?,
-            Some(Service::Afrr) => run_pile::<Band>(rt, text, from, &mut choice, &mut tally)?,
-            None => {}
-        }
+    match session.settle(text)? {
+        Some((from, Service::Fcr)) => session.run_books::<Volume>(text, from)?,
+        Some((from, Service::Afrr)) => session.run_books::<Band>(text, from)?,
+        None => {}
     }
-    let Tally {
-        taken,
-        refused,
-        not_understood,
-    } = tally;
-    println!(rt; "taken {taken} refused {refused} not understood {not_understood}")?;
+    let tally = session.tally;
+    println!(rt; "{tally}")?;
     Ok(tally)
+}
+
+/// Runs the script of the standard input.
+pub fn run_input(rt: &(impl Input + Print + AllocGlobal)) -> anyhow::Result<()> {
+    let mut text = String::new(rt.alloc());
+    rt.reader().read_to_string(&mut text)?;
+    run_script(rt, text.as_str())?;
+    Ok(())
 }

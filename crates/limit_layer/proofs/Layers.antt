@@ -27,7 +27,7 @@ module _ {Q : Type 0} (table : LimitTable) (layer : ℕ) (below : ℕ → ℕ �
   limited_alike q other e h = ap (λ a. over a (own (tenths other 0) (tenths other 1))) e ∙ (ap (λ n. over (below p t q) (own n (tenths other 1))) (h 0) ∙ ap (λ n. over (below p t q) (own (tenths q 0) n)) (h 1))
 
   over_no : (a : Admission) (cause : Cause) (b : Admission) → 1 ∷ cause_number cause ≡ admission_number a → 1 ∷ cause_number cause ≡ admission_number (over a b)
-  over_no None cause b e = absurd (let z : ◌≡◌ {A = ℕ} 0 1 = cc in omega arith)
+  over_no None cause b e = cc
   over_no (Some c) cause b e = e
 
   module _ (inside : in_range p t ≡ true) (q : Q) where
@@ -63,3 +63,7 @@ module _ {Q : Type 0} (table : LimitTable) (layer : ℕ) (below : ℕ → ℕ �
 
     pub not_admitted : (cause : Cause) → 1 ∷ cause_number cause ≡ admission_number (admitted_at (limited table layer below tenths) p t q) → (c : Cause) × (limited table layer below tenths p t q ≡ Some c) × (cause_number cause ≡ cause_number c)
     not_admitted cause e = admission_no (limited table layer below tenths p t q) cause (e ∙ ap admission_number (in_full (limited table layer below tenths)))
+
+-- values of one amount are answered alike by a layer over a book that does so
+pub layer_alike : {Q R : Type 0} (m : Measure Q R) (table : LimitTable) (layer : ℕ) (below : ℕ → ℕ → Q → Admission) (tenths : Q → ℕ → ℕ) (p t : ℕ) (q zero : Q) → zero ≡ m.nothing → ((s : Q) (d : ℕ) → m.amount s ≡ m.plus (m.amount q) (m.amount zero) → tenths s d ≡ tenths q d + tenths zero d) → ((other : Q) → m.amount other ≡ m.amount q → below p t other ≡ below p t q) → (other : Q) → m.amount other ≡ m.amount q → limited table layer below tenths p t other ≡ limited table layer below tenths p t q
+layer_alike m table layer below tenths p t q zero z h alike other e = limited_alike table layer below tenths p t q other (alike other e) (tenths_alike m tenths q zero z h other e)

@@ -1,24 +1,27 @@
 -- Limits of providers, and what they admit.
-use Rattle.std.specs.Prelude.{ℕ, zero, suc, ◌+◌, min, cond, ◌&&◌, List, [], ◌∷◌, Some, None, Option, ◌==◌, nat_le, nat_lt, slice_index}
+use Rattle.std.specs.Prelude.{ℕ, zero, suc, ◌+◌, min, cond, ◌&&◌, Some, None, Option, ◌==◌, nat_le, nat_lt, slice_index_or}
 use Rattle.quantity.specs.declared.direction.Direction.TheVariants.{Up, Down}
 use Rattle.book.specs.Admissions.{Admission}
 use Rattle.book.specs.declared.answers.Cause.TheVariants.{Limit}
+use Rattle.refusals.specs.declared.refusal.Refusal.{Refusal}
+use Rattle.refusals.specs.declared.refusal.Refusal.TheVariants.{NoSuchProvider}
+use Rattle.limit_layer.specs.declared.table.Limits.{Limits}
 use Rattle.limit_layer.specs.declared.table.LimitTable.{LimitTable}
-use Rattle.limit_layer.specs.declared.table.LimitRefusal.{LimitRefusal}
-use Rattle.limit_layer.specs.declared.table.LimitRefusal.TheVariants.{NoSuchProvider}
+
+-- the limit in the direction of a number
+abbrev pub limit_in : Limits → ℕ → ℕ
+limit_in limits zero = limits.up
+limit_in limits (suc zero) = limits.down
+limit_in limits (suc (suc d)) = 0
+
+abbrev pub no_limits : Limits
+no_limits = record { up = 0; down = 0 }
 
 -- the limit of a provider in the direction of a number: zero for what there is not
 abbrev pub limit_at : LimitTable → ℕ → ℕ → ℕ
-limit_at table p zero = slice_index table.up p
-limit_at table p (suc zero) = slice_index table.down p
-limit_at table p (suc (suc d)) = 0
+limit_at table p = limit_in (slice_index_or table.limits p no_limits)
 
--- the number of a refusal, 0 where nothing is refused
-abbrev pub refusal_number : Option LimitRefusal → List ℕ
-refusal_number None = 0 ∷ []
-refusal_number (Some NoSuchProvider) = 4 ∷ []
-
-abbrev pub set_refusal : ℕ → Option LimitRefusal
+abbrev pub set_refusal : ℕ → Option Refusal
 set_refusal p = cond (nat_lt p 32) None (Some NoSuchProvider)
 
 -- the limits after one is set

@@ -1,10 +1,11 @@
 ghost use Rattle.std.specs.Prelude.{◌≡◌};
+ghost use Rattle.std.specs.Result.{result_err};
 ghost use Rattle.book.specs.Numbers.{admission_number};
 ghost use Rattle.limit_layer.specs.Limits.{limited, next_layer, limit_at, within};
 
 use crate::layer::LimitLayer;
 use crate::table::LimitTable;
-use book::answers::{Admission, BookRefusal, Cause};
+use book::answers::{BookRefusal, Cause};
 use book::interface::Book;
 use book::range::in_range;
 use quantity::direction::Direction;
@@ -12,22 +13,28 @@ use quantity::interface::Quantity;
 use quantity::reserve::ReserveQuantity;
 
 // Whether the tenths of a provider's quantity are within its limits.
-fn within_limits(limits: &LimitTable, layer: u8, provider: u8, up: u16, down: u16) -> Admission
-    ensures { result ≡ within layer (limit_at limits.now provider 0) (limit_at limits.now provider 1) up down }
+fn within_limits(
+    limits: &LimitTable,
+    layer: u8,
+    provider: u8,
+    up: u16,
+    down: u16,
+) -> Result<(), Cause>
+    ensures { result_err result ≡ within layer (limit_at limits.now provider 0) (limit_at limits.now provider 1) up down }
 {
     if u32::from(up) > limits.limit(provider, Direction::Up) {
-        return Admission::No(Cause::Limit {
+        return Err(Cause::Limit {
             layer,
             direction: Direction::Up,
         });
     }
     if u32::from(down) > limits.limit(provider, Direction::Down) {
-        return Admission::No(Cause::Limit {
+        return Err(Cause::Limit {
             layer,
             direction: Direction::Down,
         });
     }
-    Admission::Yes
+    Ok(())
 }
 
 impl<B: Book> Book for LimitLayer<B>
@@ -52,22 +59,20 @@ where
         self.below.free()
     }
 
-    fn admits(&self, provider: u8, quarter: u8, quantity: B::Q) -> Admission {
+    fn admits(&self, provider: u8, quarter: u8, quantity: B::Q) -> Result<(), Cause> {
         let below = self.below.admits(provider, quarter, quantity);
         quantity.tenths_add_up(<B::Q as Quantity>::zero());
         if !in_range(provider, quarter) {
-            return Admission::Yes;
+            return Ok(());
         }
-        match below {
-            Admission::No(cause) => Admission::No(cause),
-            Admission::Yes => within_limits(
-                &self.limits,
-                self.layer(),
-                provider,
-                quantity.tenths(Direction::Up),
-                quantity.tenths(Direction::Down),
-            ),
-        }
+        below?;
+        within_limits(
+            &self.limits,
+            self.layer(),
+            provider,
+            quantity.tenths(Direction::Up),
+            quantity.tenths(Direction::Down),
+        )
     }
 
     fn layer(&self) -> u8 {
@@ -81,10 +86,8 @@ where
         let Some(sum) = self.below.holding(provider, quarter).join(quantity) else {
             return Err(BookRefusal::SumDoesNotFit);
         };
-        match self.admits(provider, quarter, sum) {
-            Admission::No(cause) => Err(BookRefusal::NotAdmitted(cause)),
-            Admission::Yes => self.below.raise(provider, quarter, quantity),
-        }
+        self.admits(provider, quarter, sum)?;
+        self.below.raise(provider, quarter, quantity)
     }
 
     fn lower(&mut self, provider: u8, quarter: u8, quantity: B::Q) -> Result<(), BookRefusal> {

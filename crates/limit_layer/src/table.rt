@@ -1,12 +1,12 @@
-/// Why a limit is not set.
+/// What a provider may hold at most in each direction, in tenths.
 #[derive(Clone, Copy, PartialEq, Eq, Debug)]
-pub enum LimitRefusal {
-    NoSuchProvider,
+pub struct Limits {
+    pub(crate) up: u32,
+    pub(crate) down: u32,
 }
 
 /// The prequalified tenths of each provider in each direction.
-#[derive(Clone, Copy)]
+#[derive(Clone, Copy, PartialEq, Eq, Debug)]
 pub struct LimitTable {
-    pub(crate) up: [u32; 32],
-    pub(crate) down: [u32; 32],
+    pub(crate) limits: [Limits; 32],
 }

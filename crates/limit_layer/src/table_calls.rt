@@ -1,10 +1,24 @@
 ghost use Rattle.std.specs.Prelude.{◌≡◌, ℕ};
 ghost use Rattle.std.specs.Result.{result_err};
 ghost use Rattle.quantity.specs.Directions.{number};
-ghost use Rattle.limit_layer.specs.Limits.{limit_at, refusal_number, set_refusal, after_set};
+ghost use Rattle.refusals.specs.Numbers.{answer_number};
+ghost use Rattle.limit_layer.specs.Limits.{limit_in, limit_at, set_refusal, after_set};
 
-use crate::table::{LimitRefusal, LimitTable};
+use crate::table::{LimitTable, Limits};
 use quantity::direction::Direction;
+use refusals::refusal::Refusal;
+
+impl Limits {
+    // The limit in a direction.
+    fn in_direction(&self, direction: Direction) -> u32
+        ensures { result ≡ limit_in self.now (number direction) }
+    {
+        match direction {
+            Direction::Up => self.up,
+            Direction::Down => self.down,
+        }
+    }
+}
 
 impl LimitTable {
     /// A table in which every limit is zero.
@@ -12,27 +26,22 @@ impl LimitTable {
         ensures { (p d : ℕ) → limit_at result p d ≡ 0 }
     {
         LimitTable {
-            up: [0; 32],
-            down: [0; 32],
+            limits: [Limits { up: 0, down: 0 }; 32],
         }
     }
 
     /// Sets a limit, or changes nothing for a provider above 31.
-    pub fn set(
-        &mut self,
-        provider: u8,
-        direction: Direction,
-        tenths: u32,
-    ) -> Result<(), LimitRefusal>
-        ensures answer { refusal_number (result_err result) ≡ refusal_number (set_refusal provider) }
+    pub fn set(&mut self, provider: u8, direction: Direction, tenths: u32) -> Result<(), Refusal>
+        ensures answer { answer_number (result_err result) ≡ answer_number (set_refusal provider) }
         ensures after { (p d : ℕ) → limit_at self.new p d ≡ after_set (limit_at self.old) provider (number direction) tenths p d }
     {
-        if provider >= 32 {
-            return Err(LimitRefusal::NoSuchProvider);
+        let place = usize::from(provider);
+        if place >= self.limits.len() {
+            return Err(Refusal::NoSuchProvider);
         }
         match direction {
-            Direction::Up => self.up[provider as usize] = tenths,
-            Direction::Down => self.down[provider as usize] = tenths,
+            Direction::Up => self.limits[place].up = tenths,
+            Direction::Down => self.limits[place].down = tenths,
         }
         Ok(())
     }
@@ -41,12 +50,9 @@ impl LimitTable {
     pub fn limit(&self, provider: u8, direction: Direction) -> u32
         ensures { result ≡ limit_at self.now provider (number direction) }
     {
-        if provider >= 32 {
-            return 0;
-        }
-        match direction {
-            Direction::Up => self.up[provider as usize],
-            Direction::Down => self.down[provider as usize],
+        match self.limits.get(usize::from(provider)) {
+            Some(limits) => limits.in_direction(direction),
+            None => 0,
         }
     }
 }

@@ -1,5 +1,5 @@
 -- Sums of money: whole numbers of cents, of which those from -1,000,000 to 1,000,000 fit.
-use Rattle.std.specs.Prelude.{◌≡◌, Bool, true, false, ℤ, pos, negsuc, ◌+ℤ◌, ◌-ℤ◌, Some, None, Option, ◌==◌, nat_le, unsigned_abs, refl}
+use Rattle.std.specs.Prelude.{◌≡◌, Bool, true, false, ℤ, pos, ◌+ℤ◌, ◌-ℤ◌, Some, None, Option, nat_le, unsigned_abs, refl}
 use Rattle.std.proofs.Common.{arith, leb-true}
 use Rattle.std.specs.Option.{unwrap_or}
 use Rattle.move_tests.specs.declared.cents.Cents.{Cents}
@@ -14,13 +14,6 @@ cents_of n = cents_by n (nat_le (unsigned_abs n) 1000000) refl
 
 abbrev pub no_cents : Cents
 no_cents = record { cents = pos 0; bounded = omega arith }
-
--- whether two numbers are the same
-abbrev pub eq_z : ℤ → ℤ → Bool
-eq_z (pos a) (pos b) = a == b
-eq_z (pos a) (negsuc b) = false
-eq_z (negsuc a) (pos b) = false
-eq_z (negsuc a) (negsuc b) = a == b
 
 abbrev pub cents_sum : Cents → Cents → Option Cents
 cents_sum a b = cents_of (a.cents +ℤ b.cents)

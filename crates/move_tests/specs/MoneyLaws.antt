@@ -1,13 +1,15 @@
 -- Sums of money stand for whole numbers of cents and show the laws of a quantity.
-use Rattle.std.specs.Prelude.{◌≡◌, ℕ, ◌<◌, ◌≤◌, Bool, true, false, leb, ℤ, pos, negsuc, ◌+ℤ◌, ◌-ℤ◌, Some, None, Option, MatchOption, ◌≢◌, nat_le, unsigned_abs, refl}
-use Rattle.std.proofs.Common.{ap, arith, leb-false, eqb-true, eq-eqb}
+use Rattle.std.specs.Prelude.{◌≡◌, ◌<◌, ◌≤◌, Bool, true, false, leb, ℤ, pos, ◌+ℤ◌, ◌-ℤ◌, Some, None, Option, MatchOption, ◌≢◌, nat_le, unsigned_abs, refl}
+use Rattle.std.proofs.Common.{ap, arith, leb-false}
 use mathlib.Core.HLevel.{is_prop→PathP}
 use Rattle.std.proofs.Math.Bridge.{le_prop}
 use Rattle.std.proofs.lemmas.Int.{ints}
 use Rattle.std.specs.Option.{unwrap_or}
+use Rattle.std.specs.Ordering.{int_eq}
+use Rattle.std.specs.Cmp.{signed_Decides}
 use Rattle.quantity.specs.Measure.{Measure, Sum, Rest}
 use Rattle.move_tests.specs.declared.cents.Cents.{Cents}
-use Rattle.move_tests.specs.Money.{cents_by, cents_of, no_cents, eq_z, cents_sum, cents_left, cents_told}
+use Rattle.move_tests.specs.Money.{cents_by, cents_of, no_cents, cents_sum, cents_left, cents_told}
 
 -- two sums of equal cents are one value
 pub same_cents : (v w : Cents) → v.cents ≡ w.cents → v ≡ w
@@ -43,31 +45,13 @@ pub sum_tells : (a b : Cents) (o : Option Cents) → Tells (a.cents +ℤ b.cents
 sum_tells a b (Some c) h = h
 sum_tells a b None h = λ f. omega (arith, h, f)
 
-rest_same : (a b c : ℤ) → c ≡ a -ℤ b → b +ℤ c ≡ a
-rest_same a b c h = omega (arith, ints)
-
-rest_once : (a b c : ℤ) → b +ℤ c ≡ a → c ≡ a -ℤ b
-rest_once a b c h = omega (arith, ints)
-
 pub left_tells : (a b : Cents) (o : Option Cents) → Tells (a.cents -ℤ b.cents) o → Rest ◌+ℤ◌ Bounded amount_of a b o
-left_tells a b (Some c) h = rest_same a.cents b.cents c.cents h
-left_tells a b None h = λ c f k. omega (arith, h, f, ap unsigned_abs (rest_once a.cents b.cents c k))
+left_tells a b (Some c) h = omega (arith, ints)
+left_tells a b None h = λ c f k. let e : c ≡ a.cents -ℤ b.cents = omega (arith, ints) in omega (arith, h, f, ap unsigned_abs e)
 
 pub row_tells : (r : ℤ) → ((v : Cents) → v.cents ≢ r) → (o : Option Cents) → Tells r o → (unwrap_or o no_cents).cents ≡ pos 0
 row_tells r n (Some v) h = absurd (n v h)
 row_tells r n None h = refl
-
-pub eq_z_same : (a b : ℤ) → eq_z a b ≡ true → a ≡ b
-eq_z_same (pos a) (pos b) h = ap pos (eqb-true a b h)
-eq_z_same (pos a) (negsuc b) h = absurd (let z : ◌≡◌ {A = ℕ} 0 1 = cc in omega arith)
-eq_z_same (negsuc a) (pos b) h = absurd (let z : ◌≡◌ {A = ℕ} 0 1 = cc in omega arith)
-eq_z_same (negsuc a) (negsuc b) h = ap negsuc (eqb-true a b h)
-
-pub same_eq_z : (a b : ℤ) → a ≡ b → eq_z a b ≡ true
-same_eq_z (pos a) (pos b) h = eq-eqb a b (cc)
-same_eq_z (pos a) (negsuc b) h = absurd (let z : ◌≡◌ {A = ℕ} 0 1 = cc in omega arith)
-same_eq_z (negsuc a) (pos b) h = absurd (let z : ◌≡◌ {A = ℕ} 0 1 = cc in omega arith)
-same_eq_z (negsuc a) (negsuc b) h = eq-eqb a b (cc)
 
 abbrev pub cents_measure : Measure Cents ℤ
 cents_measure = record {
@@ -79,7 +63,7 @@ cents_measure = record {
   nothing = no_cents;
   joined = cents_sum;
   remaining = cents_left;
-  alike = λ a b. eq_z a.cents b.cents;
+  alike = λ a b. int_eq a.cents b.cents;
   row = λ v. v.cents;
   told = cents_told;
   neutral = λ a. omega (arith, ints);
@@ -90,8 +74,8 @@ cents_measure = record {
   nothing_none = refl;
   joins = λ a b. sum_tells a b (cents_sum a b) (cents_tells (a.cents +ℤ b.cents));
   remains = λ a b. left_tells a b (cents_left a b) (cents_tells (a.cents -ℤ b.cents));
-  alike_same = λ a b h. eq_z_same a.cents b.cents h;
-  same_alike = λ a b h. same_eq_z a.cents b.cents h;
+  alike_same = λ a b. (signed_Decides a.cents b.cents).0;
+  same_alike = λ a b. (signed_Decides a.cents b.cents).1;
   row_told = λ v. ap (λ (o : Option Cents). (unwrap_or o no_cents).cents) (tells_once v.cents (cents_of v.cents) (Some v) (cents_tells v.cents) refl);
   no_row_none = λ r n. row_tells r n (cents_of r) (cents_tells r);
 }

@@ -9,10 +9,7 @@ use sparse_book::record::Record;
 use std::process::Abort;
 
 fn cents(n: i32) -> Cents {
-    match Cents::of_cents(n) {
-        Some(sum) => sum,
-        None => Cents::zero(),
-    }
+    Cents::of_row(n)
 }
 
 // What the providers 0 and 1 hold in the quarters 0 and 1.

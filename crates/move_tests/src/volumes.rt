@@ -13,10 +13,7 @@ use sparse_book::record::Record;
 use std::process::Abort;
 
 fn tenths(n: u16) -> Volume {
-    match Volume::of_tenths(n) {
-        Some(volume) => volume,
-        None => Volume::zero(),
-    }
+    Volume::of_row(n)
 }
 
 // The provider holds this many tenths in every quarter from the first to the last.

@@ -4,3 +4,5 @@ pub mod Fcr
 pub mod FcrLaws
 pub mod Afrr
 pub mod AfrrLaws
+pub mod Texts
+pub mod Reading

@@ -4,7 +4,7 @@ pub mod calls;
 pub mod laws;
 
 /// The quantity of aFRR: two directions, up and down, each of at most 10,000 tenths.
-#[derive(Clone, Copy)]
+#[derive(Clone, Copy, PartialEq, Eq, Debug)]
 pub struct Band {
     up: u16,
     down: u16,

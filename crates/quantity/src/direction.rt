@@ -1,7 +1,9 @@
 ghost use Rattle.std.specs.Prelude.{Some};
 ghost use Rattle.quantity.specs.Directions.{text};
+ghost use Rattle.quantity.specs.Reading.{Reads};
 
 use std::fmt;
+use std::str::FromStr;
 
 /// A direction of a reserve: up is the first, down the second.
 #[derive(Clone, Copy, PartialEq, Eq, Debug)]
@@ -17,6 +19,24 @@ impl fmt::Display for Direction {
         match *self {
             Direction::Up => write!(f, "up"),
             Direction::Down => write!(f, "down"),
+        }
+    }
+}
+
+/// A word that is no direction.
+#[derive(Clone, Copy, PartialEq, Eq, Debug)]
+pub struct UnknownDirection;
+
+impl FromStr for Direction {
+    type Err = UnknownDirection;
+
+    ghost from_str_gives = { Reads };
+
+    fn from_str(word: &str) -> Result<Direction, UnknownDirection> {
+        match word {
+            "up" => Ok(Direction::Up),
+            "down" => Ok(Direction::Down),
+            _ => Err(UnknownDirection),
         }
     }
 }

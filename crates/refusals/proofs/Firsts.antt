@@ -1,5 +1,5 @@
 -- The first refusal of a list, by its first entry or by its front; and a single condition.
-use Rattle.std.proofs.Common.{◌≡◌, ℕ, Bool, true, false, List, [], ◌∷◌, ◌++◌, Some, None, Option, refl, ap, arith}
+use Rattle.std.proofs.Common.{◌≡◌, Bool, true, false, List, [], ◌∷◌, ◌++◌, Some, None, Option, refl, ap}
 use Rattle.refusals.specs.First.{first_some, when}
 use Rattle.refusals.specs.declared.refusal.Refusal.{Refusal}
 
@@ -16,17 +16,17 @@ alone (Some r) = refl
 -- where nothing is refused, neither the first entry nor the others refuse
 pub none_both : (o : Option Refusal) (os : List (Option Refusal)) → first_some (o ∷ os) ≡ None → (o ≡ None) × (first_some os ≡ None)
 none_both None os e = (refl, e)
-none_both (Some r) os e = (e, absurd (let z : ◌≡◌ {A = ℕ} 0 1 = cc in omega arith))
+none_both (Some r) os e = (e, cc)
 
 pub front_stops : (xs ys : List (Option Refusal)) (r : Refusal) → first_some xs ≡ Some r → first_some (xs ++ ys) ≡ Some r
-front_stops [] ys r e = absurd (let z : ◌≡◌ {A = ℕ} 0 1 = cc in omega arith)
+front_stops [] ys r e = cc
 front_stops (None ∷ xs) ys r e = front_stops xs ys r e
 front_stops (Some x ∷ xs) ys r e = e
 
 pub front_passes : (xs ys : List (Option Refusal)) → first_some xs ≡ None → first_some (xs ++ ys) ≡ first_some ys
 front_passes [] ys e = refl
 front_passes (None ∷ xs) ys e = front_passes xs ys e
-front_passes (Some x ∷ xs) ys e = absurd (let z : ◌≡◌ {A = ℕ} 0 1 = cc in omega arith)
+front_passes (Some x ∷ xs) ys e = cc
 
 -- where nothing is refused, the front refuses nothing
 pub front_clear : (xs ys : List (Option Refusal)) → first_some (xs ++ ys) ≡ None → first_some xs ≡ None
@@ -36,5 +36,5 @@ front_clear (Some x ∷ xs) ys e = e
 
 -- a condition that does not refuse does not hold
 pub when_none : (b : Bool) (r : Refusal) → when b r ≡ None → b ≡ false
-when_none true r e = absurd (let z : ◌≡◌ {A = ℕ} 0 1 = cc in omega arith)
+when_none true r e = cc
 when_none false r e = refl

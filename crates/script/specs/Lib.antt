@@ -1,1 +1,3 @@
 pub mod Performed
+pub mod Texts
+pub mod Reading

@@ -1,5 +1,5 @@
 -- What a call of a script answers and changes, over the holdings, places and admission of a book.
-use Rattle.std.specs.Prelude.{ℕ, ◌-◌, List, [], ◌∷◌, Some, None, Option}
+use Rattle.std.specs.Prelude.{ℕ, ◌-◌, List, [], ◌∷◌, Some, None, Option, Ok, Err, Result}
 use Rattle.quantity.specs.Measure.{Measure}
 use Rattle.book.specs.Grid.{Grid, amounts, taken}
 use Rattle.book.specs.Numbers.{refusal_number}
@@ -12,7 +12,9 @@ use Rattle.span_moves.specs.Moves.{move_refusal, move_after}
 use Rattle.script.specs.declared.calls.Call.{Call}
 use Rattle.script.specs.declared.calls.Call.TheVariants.{Raise, Lower, Move, Holding, Free}
 use Rattle.script.specs.declared.calls.Answer.{Answer}
-use Rattle.script.specs.declared.calls.Answer.TheVariants.{Raised, Lowered, Moved, Held, FreePlaces, Refused, NotMoved}
+use Rattle.script.specs.declared.calls.Answer.TheVariants.{Raised, Lowered, Moved, Held, FreePlaces}
+use Rattle.script.specs.declared.calls.NotDone.{NotDone}
+use Rattle.script.specs.declared.calls.NotDone.TheVariants.{Book, Span}
 
 -- an answer as a number with its values, and the quantity that it tells, if any
 pub record Said (Q : Type 0) : Type 0 where
@@ -20,14 +22,14 @@ pub record Said (Q : Type 0) : Type 0 where
   pub quantity : Option Q
 
 -- the number of an answer: 0 and the kind for a call that was taken, else that of the refusal
-abbrev pub said : {Q : Type 0} → Answer Q → Said Q
-said Raised = record { numbers = 0 ∷ (1 ∷ []); quantity = None }
-said Lowered = record { numbers = 0 ∷ (2 ∷ []); quantity = None }
-said (Held q) = record { numbers = 0 ∷ (3 ∷ []); quantity = Some q }
-said (FreePlaces n) = record { numbers = 0 ∷ (4 ∷ (n ∷ [])); quantity = None }
-said Moved = record { numbers = 0 ∷ (5 ∷ []); quantity = None }
-said (NotMoved refusal) = record { numbers = answer_number (Some refusal); quantity = None }
-said (Refused refusal) = record { numbers = refusal_number refusal; quantity = None }
+abbrev pub said : {Q : Type 0} → Result (Answer Q) NotDone → Said Q
+said (Ok Raised) = record { numbers = 0 ∷ (1 ∷ []); quantity = None }
+said (Ok Lowered) = record { numbers = 0 ∷ (2 ∷ []); quantity = None }
+said (Ok (Held q)) = record { numbers = 0 ∷ (3 ∷ []); quantity = Some q }
+said (Ok (FreePlaces n)) = record { numbers = 0 ∷ (4 ∷ (n ∷ [])); quantity = None }
+said (Ok Moved) = record { numbers = 0 ∷ (5 ∷ []); quantity = None }
+said (Err (Span refusal)) = record { numbers = answer_number (Some refusal); quantity = None }
+said (Err (Book refusal)) = record { numbers = refusal_number refusal; quantity = None }
 
 -- a call of this kind that is refused, or taken
 abbrev pub done : {Q : Type 0} → ℕ → Option BookRefusal → Said Q

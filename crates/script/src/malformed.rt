@@ -1,3 +1,4 @@
+use quantity::direction::UnknownDirection;
 use std::fmt;
 
 /// What is wrong with a line that is not understood.
@@ -19,6 +20,17 @@ pub enum Malformed {
     LimitTooLarge,
     QuantityTooLarge,
     WrongDirections,
+}
+
+impl From<UnknownDirection> for Malformed {
+    ghost use Rattle.std.specs.Prelude.{◌≡◌};
+    ghost use Rattle.script.specs.declared.malformed.Malformed.TheVariants.{UnknownDirection};
+
+    ghost from_gives = { λ _ what. what ≡ UnknownDirection };
+
+    fn from(_unknown: UnknownDirection) -> Malformed {
+        Malformed::UnknownDirection
+    }
 }
 
 impl fmt::Display for Malformed {

@@ -2,13 +2,13 @@ ghost use Rattle.std.specs.Prelude.{◌≡◌};
 ghost use Rattle.book.specs.Grid.{amounts};
 ghost use Rattle.script.specs.Performed.{said, answered, after};
 
-use crate::calls::{Answer, Call};
+use crate::calls::{Answer, Call, NotDone};
 use book::interface::Book;
 use quantity::interface::Quantity;
 use span_moves::spans::move_span;
 
 /// Makes one call of a book.
-pub fn perform<B: Book>(book: &mut B, call: Call<B::Q>) -> Answer<B::Q>
+pub fn perform<B: Book>(book: &mut B, call: Call<B::Q>) -> Result<Answer<B::Q>, NotDone>
     ensures answer { said result ≡ answered B.Q.Quantity.measure (B.Book.holdings book.old) (B.Book.places book.old) (B.Book.admission book.old) call }
     ensures after { amounts B.Q.Quantity.measure (B.Book.holdings book.new) ≡ after B.Q.Quantity.measure (B.Book.holdings book.old) (B.Book.places book.old) (B.Book.admission book.old) call }
     ensures places { B.Book.places book.new ≡ B.Book.places book.old }
@@ -20,29 +20,29 @@ pub fn perform<B: Book>(book: &mut B, call: Call<B::Q>) -> Answer<B::Q>
             provider,
             quarter,
             quantity,
-        } => match book.raise(provider, quarter, quantity) {
-            Ok(()) => Answer::Raised,
-            Err(refusal) => Answer::Refused(refusal),
-        },
+        } => {
+            book.raise(provider, quarter, quantity)?;
+            Ok(Answer::Raised)
+        }
         Call::Lower {
             provider,
             quarter,
             quantity,
-        } => match book.lower(provider, quarter, quantity) {
-            Ok(()) => Answer::Lowered,
-            Err(refusal) => Answer::Refused(refusal),
-        },
+        } => {
+            book.lower(provider, quarter, quantity)?;
+            Ok(Answer::Lowered)
+        }
         Call::Move {
             giver,
             taker,
             first,
             last,
             quantity,
-        } => match move_span(book, giver, taker, first, last, quantity) {
-            Ok(()) => Answer::Moved,
-            Err(refusal) => Answer::NotMoved(refusal),
-        },
-        Call::Holding { provider, quarter } => Answer::Held(book.holding(provider, quarter)),
-        Call::Free => Answer::FreePlaces(book.free()),
+        } => {
+            move_span(book, giver, taker, first, last, quantity)?;
+            Ok(Answer::Moved)
+        }
+        Call::Holding { provider, quarter } => Ok(Answer::Held(book.holding(provider, quarter))),
+        Call::Free => Ok(Answer::FreePlaces(book.free())),
     }
 }

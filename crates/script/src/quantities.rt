@@ -3,13 +3,12 @@ use crate::words::tenths;
 use quantity::afrr::Band;
 use quantity::fcr::Volume;
 use quantity::reserve::ReserveQuantity;
-use std::alloc::{AllocError, Global};
+use std::fmt;
 
-/// A quantity as a script writes it.
-pub trait Written: ReserveQuantity {
+/// A quantity as a script writes it, and as it is printed.
+pub trait Written: ReserveQuantity + fmt::Display {
+    // No `FromStr`: the error is this crate's, the quantities are another's.
     fn read(word: &str) -> Result<Self, Malformed>;
-
-    fn text(self, heap: Global) -> Result<String, AllocError>;
 }
 
 /// `100`: the tenths up.
@@ -20,28 +19,15 @@ impl Written for Volume {
         }
         Volume::of_tenths(tenths(word)?).ok_or(Malformed::QuantityTooLarge)
     }
-
-    fn text(self, heap: Global) -> Result<String, AllocError> {
-        let up = self.up();
-        format!(in heap; "{up}")
-    }
 }
 
 /// `40/20`: the tenths up and down.
 impl Written for Band {
     fn read(word: &str) -> Result<Band, Malformed> {
-        let Some((up, down)) = word.split_once('/') else {
-            return Err(Malformed::WrongDirections);
-        };
+        let (up, down) = word.split_once('/').ok_or(Malformed::WrongDirections)?;
         if down.contains('/') {
             return Err(Malformed::WrongDirections);
         }
         Band::of_tenths(tenths(up)?, tenths(down)?).ok_or(Malformed::QuantityTooLarge)
-    }
-
-    fn text(self, heap: Global) -> Result<String, AllocError> {
-        let up = self.up();
-        let down = self.down();
-        format!(in heap; "{up}/{down}")
     }
 }

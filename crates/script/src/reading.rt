@@ -1,43 +1,34 @@
 use crate::calls::Call;
 use crate::malformed::Malformed;
 use crate::quantities::Written;
-use crate::settings::{Bottom, Line, Service, Setting};
-use crate::words::{limit, next_word, no_more, places, small, without_comment};
+use crate::settings::{Bottom, Line, Setting};
+use crate::words::{next_word, no_more, number, small, without_comment};
 use quantity::direction::Direction;
 use std::str::SplitWhitespace;
 
 fn read_service(words: &mut SplitWhitespace<'_>) -> Result<Setting, Malformed> {
-    match next_word(words)? {
-        "fcr" => Ok(Setting::Service(Service::Fcr)),
-        "afrr" => Ok(Setting::Service(Service::Afrr)),
-        _ => Err(Malformed::UnknownService),
-    }
+    Ok(Setting::Service(next_word(words)?.parse()?))
 }
 
 fn read_books(words: &mut SplitWhitespace<'_>) -> Result<Setting, Malformed> {
     match next_word(words)? {
         "full" => Ok(Setting::Books(Bottom::Full)),
-        "sparse" => Ok(Setting::Books(Bottom::Sparse(places(next_word(words)?)?))),
+        "sparse" => {
+            let places = number(next_word(words)?, Malformed::PlacesTooMany)?;
+            Ok(Setting::Books(Bottom::Sparse(places)))
+        }
         _ => Err(Malformed::UnknownBooks),
     }
 }
 
 fn read_limits(words: &mut SplitWhitespace<'_>) -> Result<Setting, Malformed> {
-    match next_word(words)? {
-        "on" => Ok(Setting::Limits(true)),
-        "off" => Ok(Setting::Limits(false)),
-        _ => Err(Malformed::NotOnOff),
-    }
+    Ok(Setting::Limits(next_word(words)?.parse()?))
 }
 
 fn read_limit(words: &mut SplitWhitespace<'_>) -> Result<Setting, Malformed> {
     let provider = small(next_word(words)?)?;
-    let direction = match next_word(words)? {
-        "up" => Direction::Up,
-        "down" => Direction::Down,
-        _ => return Err(Malformed::UnknownDirection),
-    };
-    let tenths = limit(next_word(words)?)?;
+    let direction: Direction = next_word(words)?.parse()?;
+    let tenths = number(next_word(words)?, Malformed::LimitTooLarge)?;
     Ok(Setting::Limit {
         provider,
         direction,
@@ -54,9 +45,7 @@ pub fn read_line(line: &str) -> Result<Line, Malformed> {
         Some("books") => read_books(&mut words)?,
         Some("limits") => read_limits(&mut words)?,
         Some("limit") => read_limit(&mut words)?,
-        Some("raise") | Some("lower") | Some("move") | Some("holding") | Some("free") => return Ok(
-            Line::Call,
-        ),
+        Some("raise" | "lower" | "move" | "holding" | "free") => return Ok(Line::Call),
         Some(_) => return Err(Malformed::UnknownWord),
     };
     no_more(&mut words)?;

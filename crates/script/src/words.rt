@@ -1,57 +1,39 @@
-ghost use Rattle.std.specs.Prelude.{◌≤◌, IfOk};
+ghost use Rattle.std.specs.Prelude.{◌≤◌, Ok, IfOk};
 
 use crate::malformed::Malformed;
-use std::str::SplitWhitespace;
+use std::str::{FromStr, SplitWhitespace};
 
-// Whether a word has digits alone, and at least one.
-fn digits_alone(word: &str) -> bool {
-    for b in word.bytes() {
-        if !b.is_ascii_digit() {
-            return false;
-        }
-    }
-    !word.is_empty()
-}
-
-/// A number written in digits alone, at most `most`; a larger one is told as it is given here.
-pub fn number(word: &str, most: u64, too_large: Malformed) -> Result<u64, Malformed>
-    ensures { IfOk result (λ n. n ≤ most) }
+/// A number written in digits alone; one that is too large for its type is told as it is given here.
+pub fn number<N: FromStr>(word: &str, too_large: Malformed) -> Result<N, Malformed>
+where
+    N: Drop,
+    N::Err: Drop,
+    ensures { IfOk result (λ n. N.from_str_gives word.now (Ok n)) }
 {
-    if !digits_alone(word) {
+    if word.is_empty() || !word.bytes().all(|b| b.is_ascii_digit()) {
         return Err(Malformed::NotANumber);
     }
-    match word.parse::<u64>() {
-        Ok(n) if n <= most => Ok(n),
-        _ => Err(too_large),
-    }
+    word.parse().or(Err(too_large))
 }
 
 /// A provider, quarter, block or day number, written 0 to 255.
 pub fn small(word: &str) -> Result<u8, Malformed> {
-    Ok(number(word, 255, Malformed::NumberTooLarge)? as u8)
+    number(word, Malformed::NumberTooLarge)
 }
 
 /// The tenths of a quantity in one direction.
-pub fn tenths(word: &str) -> Result<u16, Malformed> {
-    Ok(number(word, 10000, Malformed::QuantityTooLarge)? as u16)
-}
-
-/// The number of places of a sparse book.
-pub fn places(word: &str) -> Result<u16, Malformed> {
-    Ok(number(word, 65535, Malformed::PlacesTooMany)? as u16)
-}
-
-/// A limit in tenths.
-pub fn limit(word: &str) -> Result<u32, Malformed> {
-    Ok(number(word, 4294967295, Malformed::LimitTooLarge)? as u32)
+pub fn tenths(word: &str) -> Result<u16, Malformed>
+    ensures { IfOk result (λ n. n ≤ 10000) }
+{
+    match number(word, Malformed::QuantityTooLarge)? {
+        n if n <= 10000 => Ok(n),
+        _ => Err(Malformed::QuantityTooLarge),
+    }
 }
 
 /// A line up to its comment.
 pub fn without_comment(line: &str) -> &str {
-    match line.split_once('#') {
-        Some((call, _)) => call,
-        None => line,
-    }
+    line.split_once('#').map_or(line, |(call, _)| call)
 }
 
 /// The next word of a line.

@@ -8,10 +8,7 @@ impl Cents {
     pub fn of_cents(cents: i32) -> Option<Cents>
         ensures { result ≡ cents_of cents }
     {
-        if cents < -1000000 {
-            return None;
-        }
-        if cents > 1000000 {
+        if cents.unsigned_abs() > 1_000_000 {
             return None;
         }
         Some(Cents { cents })

@@ -21,7 +21,7 @@ impl Quantity for Cents {
     }
 
     fn equals(self, other: Cents) -> bool {
-        self.cents == other.cents
+        self == other
     }
 
     fn row(self) -> i32 {
@@ -29,9 +29,6 @@ impl Quantity for Cents {
     }
 
     fn of_row(row: i32) -> Cents {
-        match Cents::of_cents(row) {
-            Some(sum) => sum,
-            None => Cents::zero(),
-        }
+        Cents::of_cents(row).unwrap_or(Cents::zero())
     }
 }

@@ -1,7 +1,9 @@
-ghost use Rattle.std.specs.Prelude.{◌≡◌};
+ghost use Rattle.std.specs.Prelude.{◌≡◌, Some};
 ghost use Rattle.quantity.specs.Afrr.{band_of};
+ghost use Rattle.quantity.specs.Texts.{band_text};
 
 use crate::afrr::Band;
+use std::fmt;
 
 impl Band {
     /// The band of these tenths up and down, or `None` where one is above 10,000: there is none.
@@ -24,5 +26,16 @@ impl Band {
         ensures { result ≡ self.down }
     {
         self.down
+    }
+}
+
+/// `40/20`: the tenths up and down.
+impl fmt::Display for Band {
+    ghost output = { λ x. Some (band_text x) };
+
+    fn fmt<W: fmt::Write>(&self, f: &mut fmt::Formatter<W>) -> fmt::Result {
+        let up = self.up;
+        let down = self.down;
+        write!(f, "{up}/{down}")
     }
 }

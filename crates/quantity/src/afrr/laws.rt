@@ -20,14 +20,13 @@ impl Quantity for Band {
     }
 
     fn remainder(self, part: Band) -> Option<Band> {
-        if part.up > self.up || part.down > self.down {
-            return None;
-        }
-        Band::of_tenths(self.up - part.up, self.down - part.down)
+        let up = self.up.checked_sub(part.up)?;
+        let down = self.down.checked_sub(part.down)?;
+        Band::of_tenths(up, down)
     }
 
     fn equals(self, other: Band) -> bool {
-        self.up == other.up && self.down == other.down
+        self == other
     }
 
     fn row(self) -> BandRow {
@@ -38,10 +37,7 @@ impl Quantity for Band {
     }
 
     fn of_row(row: BandRow) -> Band {
-        match Band::of_tenths(row.up, row.down) {
-            Some(band) => band,
-            None => Band::zero(),
-        }
+        Band::of_tenths(row.up, row.down).unwrap_or(Band::zero())
     }
 }
 

@@ -20,14 +20,11 @@ impl Quantity for Volume {
     }
 
     fn remainder(self, part: Volume) -> Option<Volume> {
-        if part.tenths > self.tenths {
-            return None;
-        }
-        Volume::of_tenths(self.tenths - part.tenths)
+        Volume::of_tenths(self.tenths.checked_sub(part.tenths)?)
     }
 
     fn equals(self, other: Volume) -> bool {
-        self.tenths == other.tenths
+        self == other
     }
 
     fn row(self) -> u16 {
@@ -35,10 +32,7 @@ impl Quantity for Volume {
     }
 
     fn of_row(row: u16) -> Volume {
-        match Volume::of_tenths(row) {
-            Some(volume) => volume,
-            None => Volume::zero(),
-        }
+        Volume::of_tenths(row).unwrap_or(Volume::zero())
     }
 }
 

@@ -1,4 +1,5 @@
 use Rattle.std.proofs.Common.{◌≡◌, true, false, ◌∷◌, sym, refl, ap, ◌∙◌}
+use Rattle.std.proofs.lemmas.Result.{err_from_is_err_and}
 use Rattle.book.specs.Grid.{in_range}
 use Rattle.book.specs.Numbers.{answer_number}
 use Rattle.book.specs.declared.answers.BookRefusal.TheVariants.{SumDoesNotFit, NotAdmitted}
@@ -51,32 +52,31 @@ returns-in_default g c =
       layer = refl;
     }
 
-pub returns-in-No : goal.returns-in-No
-returns-in-No g c =
+pub returns-in_err-admits : goal.returns-in_err-admits
+returns-in_err-admits g c =
     let m = g.B.Q.Quantity.measure in
     let s = c.args.self.now in
     let p = c.args.provider in
     let t = c.args.quarter in
-    let q = c.args.quantity in
     let held = g.B.Book.holdings s.below in
-    let places = g.B.Book.places s.below in
     let below = g.B.Book.admission s.below in
     let layer = next_layer (g.B.Book.layer_number s.below) in
     let own = limited s.limits layer below g.B.Q.ReserveQuantity.tenths_in in
     let inside : in_range p t ≡ true = sym c.if-not-in_range.ensures in
-    let joined : c.join.result ≡ m.joined (held p t) q = c.join.ensures ∙ ap (λ x. m.joined x q) (c.holding.ensures ∙ held_inside m held p t inside) in
-    let w = not_admitted s.limits layer below g.B.Q.ReserveQuantity.tenths_in p t inside c.in-Some.sum c.in-No.cause c.in-No.ensures.value in
-    let why = raise_barred m held places p t q inside c.in-Some.sum (sym joined ∙ c.in-Some.is) own w.0 w.1 in
+    let joined : c.join.result ≡ m.joined (held p t) c.args.quantity = c.join.ensures ∙ ap (λ x. m.joined x c.args.quantity) (c.holding.ensures ∙ held_inside m held p t inside) in
+    let w = not_admitted s.limits layer below g.B.Q.ReserveQuantity.tenths_in p t inside c.in-Some.sum c.in_err-admits.field-0.0 c.in_err-admits.ensures.value in
+    let why = raise_barred m held (g.B.Book.places s.below) p t c.args.quantity inside c.in-Some.sum (sym joined ∙ c.in-Some.is) own w.0 w.1 in
+    let e = err_from_is_err_and c.from_residual.result c.from_residual.ensures.1 in
     record {
-      answer = ap (λ xs. 18 ∷ xs) w.2 ∙ ap answer_number (sym why);
-      after = raise_refused_after m held places p t q own (NotAdmitted w.0) why;
+      answer = rw (e.1, e.2) (ap (λ xs. 18 ∷ xs) w.2 ∙ ap answer_number (sym why));
+      after = raise_refused_after m held (g.B.Book.places s.below) p t c.args.quantity own (NotAdmitted w.0) why;
       places = refl;
       admission = refl;
       layer = refl;
     }
 
-pub returns-in-Yes : goal.returns-in-Yes
-returns-in-Yes g c =
+pub returns : goal.returns
+returns g c =
     let m = g.B.Q.Quantity.measure in
     let s = c.args.self.now in
     let p = c.args.provider in
@@ -89,7 +89,7 @@ returns-in-Yes g c =
     let own = limited s.limits layer below g.B.Q.ReserveQuantity.tenths_in in
     let inside : in_range p t ≡ true = sym c.if-not-in_range.ensures in
     let joined : c.join.result ≡ m.joined (held p t) q = c.join.ensures ∙ ap (λ x. m.joined x q) (c.holding.ensures ∙ held_inside m held p t inside) in
-    let same = admitted_below s.limits layer below g.B.Q.ReserveQuantity.tenths_in p t inside c.in-Some.sum c.in-Yes.ensures.value in
+    let same = admitted_below s.limits layer below g.B.Q.ReserveQuantity.tenths_in p t inside c.in-Some.sum c.in_ok-admits.ensures.value in
     let is = sym joined ∙ c.in-Some.is in
     record {
       answer = c.raise.ensures.answer ∙ ap answer_number (sym (raise_same m held places p t q inside c.in-Some.sum is own below same));
