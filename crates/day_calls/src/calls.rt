@@ -1,4 +1,5 @@
 ghost use Rattle.std.specs.Prelude.{◌≡◌};
+ghost use Rattle.day_calls.specs.declared.calls.NotCalled.TheVariants.{NoMemory};
 ghost use Rattle.day_calls.specs.declared.calls.NotDone.TheVariants.{Refused, NotCalled as NotMade};
 
 use awards::awarded::Award;
@@ -6,6 +7,7 @@ use day::announcing::Announcement;
 use day::questions::Missing;
 use refusals::refusal::Refusal;
 use requests::request::Status;
+use std::alloc::AllocError;
 
 /// A call of one day.
 #[derive(Clone, Copy)]
@@ -54,6 +56,14 @@ impl From<Refusal> for NotDone {
 
     fn from(refusal: Refusal) -> NotDone {
         NotDone::Refused(refusal)
+    }
+}
+
+impl From<AllocError> for NotDone {
+    ghost from_gives = { λ _ e. e ≡ NotMade NoMemory };
+
+    fn from(_: AllocError) -> NotDone {
+        NotDone::NotCalled(NotCalled::NoMemory)
     }
 }
 
