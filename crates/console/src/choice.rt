@@ -63,13 +63,9 @@ impl Choice {
     /// The service of the first call, or what is wrong: none is chosen yet, or the call cannot be read in it.
     pub(crate) fn open(&self, line: &str) -> Result<Service, Malformed> {
         let service = self.service.ok_or(Malformed::ServiceFirst)?;
-        let fault = match service {
-            Service::Fcr => read_call::<Volume>(line).err(),
-            Service::Afrr => read_call::<Band>(line).err(),
-        };
-        match fault {
-            None => Ok(service),
-            Some(what) => Err(what),
+        match service {
+            Service::Fcr => read_call::<Volume>(line).and(Ok(service)),
+            Service::Afrr => read_call::<Band>(line).and(Ok(service)),
         }
     }
 }

@@ -1,3 +1,5 @@
+ghost use Rattle.std.specs.Prelude.{◌++◌, Some, codes, decimal};
+
 use crate::choice::Choice;
 use crate::fault::Fault;
 use book::interface::Book;
@@ -23,6 +25,8 @@ pub struct Tally {
 }
 
 impl fmt::Display for Tally {
+    ghost output = { λ x. Some (codes "taken " ++ decimal x.taken ++ codes " refused " ++ decimal x.refused ++ codes " not understood " ++ decimal x.not_understood) };
+
     fn fmt<W: fmt::Write>(&self, f: &mut fmt::Formatter<W>) -> fmt::Result {
         let Tally {
             taken,
@@ -40,6 +44,7 @@ impl fmt::Display for Tally {
 #[derive(Drop)]
 struct Session<'a, R> {
     rt: &'a R,
+    text: &'a str,
     choice: Choice,
     tally: Tally,
 }
@@ -77,8 +82,8 @@ impl<'a, R: Print + AllocGlobal> Session<'a, R> {
     }
 
     // Takes the settings of a script up to its first call, and tells that call's place and service.
-    fn settle(&mut self, text: &str) -> io::Result<Option<(usize, Service)>> {
-        for (place, line) in text.lines().enumerate() {
+    fn settle(&mut self) -> io::Result<Option<(usize, Service)>> {
+        for (place, line) in self.text.lines().enumerate() {
             let outcome = match read_line(line) {
                 Ok(Line::Blank) => continue,
                 Ok(Line::Setting(setting)) => self.choice.take_early(setting),
@@ -110,36 +115,36 @@ impl<'a, R: Print + AllocGlobal> Session<'a, R> {
     }
 
     // Does the lines from a place on.
-    fn run_lines<B: Book>(&mut self, text: &str, from: usize, mut book: B) -> io::Result<()>
+    fn run_lines<B: Book>(&mut self, from: usize, mut book: B) -> io::Result<()>
     where
         B: Drop,
         B::Q: Written,
     {
-        for (place, line) in text.lines().enumerate().skip(from) {
+        for (place, line) in self.text.lines().enumerate().skip(from) {
             self.run_line(place, line, &mut book)?;
         }
         Ok(())
     }
 
     // Puts the limits over the book if they are on, and runs the lines from a place on.
-    fn run_over<B: Book + Drop>(&mut self, text: &str, from: usize, below: B) -> io::Result<()>
+    fn run_over<B: Book + Drop>(&mut self, from: usize, below: B) -> io::Result<()>
     where
         B::Q: Written,
     {
         match self.choice.limited {
-            Switch::Off => self.run_lines(text, from, below),
-            Switch::On => self.run_lines(text, from, LimitLayer::new(below, self.choice.limits)),
+            Switch::Off => self.run_lines(from, below),
+            Switch::On => self.run_lines(from, LimitLayer::new(below, self.choice.limits)),
         }
     }
 
     // Makes the chosen book and runs the lines from a place on over it.
-    fn run_books<K: Written>(&mut self, text: &str, from: usize) -> io::Result<()> {
+    fn run_books<K: Written>(&mut self, from: usize) -> io::Result<()> {
         let heap = self.rt.alloc();
         match self.choice.bottom {
-            Bottom::Full => self.run_over(text, from, StoredFullBook::<K>::new(heap)?),
+            Bottom::Full => self.run_over(from, StoredFullBook::<K>::new(heap)?),
             Bottom::Sparse(places) => {
                 let book = StoredSparseBook::<K>::new(heap, usize::from(places))?;
-                self.run_over(text, from, book)
+                self.run_over(from, book)
             }
         }
     }
@@ -149,6 +154,7 @@ impl<'a, R: Print + AllocGlobal> Session<'a, R> {
 pub fn run_script(rt: &(impl Print + AllocGlobal), text: &str) -> anyhow::Result<Tally> {
     let mut session = Session {
         rt,
+        text,
         choice: Choice::new(),
         tally: Tally {
             taken: 0,
@@ -156,9 +162,9 @@ pub fn run_script(rt: &(impl Print + AllocGlobal), text: &str) -> anyhow::Result
             not_understood: 0,
         },
     };
-    match session.settle(text)? {
-        Some((from, Service::Fcr)) => session.run_books::<Volume>(text, from)?,
-        Some((from, Service::Afrr)) => session.run_books::<Band>(text, from)?,
+    match session.settle()? {
+        Some((from, Service::Fcr)) => session.run_books::<Volume>(from)?,
+        Some((from, Service::Afrr)) => session.run_books::<Band>(from)?,
         None => {}
     }
     let tally = session.tally;

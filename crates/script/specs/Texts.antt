@@ -1,5 +1,5 @@
 -- The words of settings, and of what a call answers.
-use Rattle.std.specs.Prelude.{ℕ, List, ◌++◌, codes, decimal, Some, None, Option}
+use Rattle.std.specs.Prelude.{ℕ, List, ◌++◌, codes, decimal, Some, Option}
 use Rattle.std.specs.Fmt.{◌++?◌}
 use Rattle.book.specs.Texts.{refusal_text as book_text}
 use Rattle.refusals.specs.Texts.{refusal_text as span_text}

@@ -1,5 +1,5 @@
 use crate::malformed::Malformed;
-use crate::words::tenths;
+use crate::words::number;
 use quantity::afrr::Band;
 use quantity::fcr::Volume;
 use quantity::reserve::ReserveQuantity;
@@ -17,17 +17,20 @@ impl Written for Volume {
         if word.contains('/') {
             return Err(Malformed::WrongDirections);
         }
-        Volume::of_tenths(tenths(word)?).ok_or(Malformed::QuantityTooLarge)
+        let tenths = number(word, Malformed::QuantityTooLarge)?;
+        Volume::of_tenths(tenths).ok_or(Malformed::QuantityTooLarge)
     }
 }
 
-/// `40/20`: the tenths up and down.
+/// `40/20`: up and down, each written as a volume.
 impl Written for Band {
     fn read(word: &str) -> Result<Band, Malformed> {
         let (up, down) = word.split_once('/').ok_or(Malformed::WrongDirections)?;
         if down.contains('/') {
             return Err(Malformed::WrongDirections);
         }
-        Band::of_tenths(tenths(up)?, tenths(down)?).ok_or(Malformed::QuantityTooLarge)
+        let up = Volume::read(up)?.up();
+        let down = Volume::read(down)?.up();
+        Band::of_tenths(up, down).ok_or(Malformed::QuantityTooLarge)
     }
 }

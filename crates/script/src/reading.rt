@@ -2,9 +2,14 @@ use crate::calls::Call;
 use crate::malformed::Malformed;
 use crate::quantities::Written;
 use crate::settings::{Bottom, Line, Setting};
-use crate::words::{next_word, no_more, number, small, without_comment};
+use crate::words::{next_word, no_more, number, without_comment};
 use quantity::direction::Direction;
 use std::str::SplitWhitespace;
+
+// The next word, as a provider or a quarter.
+fn read_u8(words: &mut SplitWhitespace<'_>) -> Result<u8, Malformed> {
+    number(next_word(words)?, Malformed::NumberTooLarge)
+}
 
 fn read_service(words: &mut SplitWhitespace<'_>) -> Result<Setting, Malformed> {
     Ok(Setting::Service(next_word(words)?.parse()?))
@@ -26,7 +31,7 @@ fn read_limits(words: &mut SplitWhitespace<'_>) -> Result<Setting, Malformed> {
 }
 
 fn read_limit(words: &mut SplitWhitespace<'_>) -> Result<Setting, Malformed> {
-    let provider = small(next_word(words)?)?;
+    let provider = read_u8(words)?;
     let direction: Direction = next_word(words)?.parse()?;
     let tenths = number(next_word(words)?, Malformed::LimitTooLarge)?;
     Ok(Setting::Limit {
@@ -54,8 +59,8 @@ pub fn read_line(line: &str) -> Result<Line, Malformed> {
 
 // The provider, quarter and quantity of a change.
 fn read_change<Q: Written>(words: &mut SplitWhitespace<'_>) -> Result<(u8, u8, Q), Malformed> {
-    let provider = small(next_word(words)?)?;
-    let quarter = small(next_word(words)?)?;
+    let provider = read_u8(words)?;
+    let quarter = read_u8(words)?;
     let quantity = Q::read(next_word(words)?)?;
     Ok((provider, quarter, quantity))
 }
@@ -79,10 +84,10 @@ fn read_words<Q: Written>(words: &mut SplitWhitespace<'_>) -> Result<Call<Q>, Ma
             })
         }
         "move" => {
-            let giver = small(next_word(words)?)?;
-            let taker = small(next_word(words)?)?;
-            let first = small(next_word(words)?)?;
-            let last = small(next_word(words)?)?;
+            let giver = read_u8(words)?;
+            let taker = read_u8(words)?;
+            let first = read_u8(words)?;
+            let last = read_u8(words)?;
             let quantity = Q::read(next_word(words)?)?;
             Ok(Call::Move {
                 giver,
@@ -93,8 +98,8 @@ fn read_words<Q: Written>(words: &mut SplitWhitespace<'_>) -> Result<Call<Q>, Ma
             })
         }
         "holding" => {
-            let provider = small(next_word(words)?)?;
-            let quarter = small(next_word(words)?)?;
+            let provider = read_u8(words)?;
+            let quarter = read_u8(words)?;
             Ok(Call::Holding { provider, quarter })
         }
         "free" => Ok(Call::Free),

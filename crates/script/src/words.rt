@@ -1,4 +1,4 @@
-ghost use Rattle.std.specs.Prelude.{◌≤◌, Ok, IfOk};
+ghost use Rattle.std.specs.Prelude.{Ok, IfOk};
 
 use crate::malformed::Malformed;
 use std::str::{FromStr, SplitWhitespace};
@@ -14,21 +14,6 @@ where
         return Err(Malformed::NotANumber);
     }
     word.parse().or(Err(too_large))
-}
-
-/// A provider, quarter, block or day number, written 0 to 255.
-pub fn small(word: &str) -> Result<u8, Malformed> {
-    number(word, Malformed::NumberTooLarge)
-}
-
-/// The tenths of a quantity in one direction.
-pub fn tenths(word: &str) -> Result<u16, Malformed>
-    ensures { IfOk result (λ n. n ≤ 10000) }
-{
-    match number(word, Malformed::QuantityTooLarge)? {
-        n if n <= 10000 => Ok(n),
-        _ => Err(Malformed::QuantityTooLarge),
-    }
 }
 
 /// A line up to its comment.
