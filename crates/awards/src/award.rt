@@ -1,6 +1,7 @@
 ghost use Rattle.std.specs.Prelude.{◌≡◌};
 ghost use Rattle.std.specs.Result.{result_err};
 ghost use Rattle.book.specs.Grid.{amounts};
+ghost use Rattle.book.specs.Rest.{ChangesHoldings};
 ghost use Rattle.refusals.specs.First.{first_some};
 ghost use Rattle.refusals.specs.Numbers.{answer_number};
 ghost use Rattle.span_moves.specs.Spans.{Alike};
@@ -61,9 +62,7 @@ where
     ensures answer { answer_number (result_err result) ≡ answer_number (award_refusal O.Q.Quantity.measure (O.Book.holdings obligations.old) (O.Book.places obligations.old) (O.Book.admission obligations.old) O.Q.ReserveQuantity.directions quarters (view sheet.old).awards award.provider award.block award.quantity prices.now) }
     ensures alike { Alike O.Q.Quantity.measure (O.Book.holdings obligations.old) award.quantity (λ other q. award_refusal O.Q.Quantity.measure other (O.Book.places obligations.old) (O.Book.admission obligations.old) O.Q.ReserveQuantity.directions quarters (view sheet.old).awards award.provider award.block q prices.now) (result_err result) }
     ensures after { amounts O.Q.Quantity.measure (O.Book.holdings obligations.new) ≡ award_after O.Q.Quantity.measure (O.Book.holdings obligations.old) (O.Book.places obligations.old) (O.Book.admission obligations.old) O.Q.ReserveQuantity.directions quarters (view sheet.old).awards award.provider award.block award.quantity prices.now }
-    ensures places { O.Book.places obligations.new ≡ O.Book.places obligations.old }
-    ensures admission { O.Book.admission obligations.new ≡ O.Book.admission obligations.old }
-    ensures layer { O.Book.layer_number obligations.new ≡ O.Book.layer_number obligations.old }
+    ensures rest { ChangesHoldings O.Book.places O.Book.admission O.Book.layer_number obligations.old obligations.new }
     ensures sheet { view sheet.new ≡ award_sheet O.Q.Quantity.measure (O.Book.holdings obligations.old) (O.Book.places obligations.old) (O.Book.admission obligations.old) O.Q.ReserveQuantity.tenths_in O.Q.ReserveQuantity.directions quarters award.provider award.block award.quantity prices.now (view sheet.old) }
 {
     check_award(sheet, award, prices)?;

@@ -3,3 +3,4 @@ pub mod Numbers
 pub mod Grid
 pub mod Calls
 pub mod Texts
+pub mod Rest

@@ -3,6 +3,7 @@ ghost use Rattle.std.specs.Result.{result_err};
 ghost use Rattle.book.specs.Admissions.{Admission};
 ghost use Rattle.book.specs.Numbers.{admission_number, answer_number};
 ghost use Rattle.book.specs.Grid.{amounts, taken};
+ghost use Rattle.book.specs.Rest.{ChangesHoldings};
 ghost use Rattle.book.specs.Calls.{held_at, admitted_at, raise_refusal, lower_refusal, raised, lowered};
 
 use crate::answers::{BookRefusal, Cause};
@@ -42,15 +43,11 @@ pub trait Book {
     fn raise(&mut self, provider: u8, quarter: u8, quantity: Self::Q) -> Result<(), BookRefusal>
         ensures answer { answer_number (result_err result) ≡ answer_number (raise_refusal Self.Q.Quantity.measure (holdings self.old) (places self.old) (admission self.old) provider quarter quantity) }
         ensures after { amounts Self.Q.Quantity.measure (holdings self.new) ≡ raised Self.Q.Quantity.measure (holdings self.old) (places self.old) (admission self.old) provider quarter quantity }
-        ensures places { places self.new ≡ places self.old }
-        ensures admission { admission self.new ≡ admission self.old }
-        ensures layer { layer_number self.new ≡ layer_number self.old };
+        ensures rest { ChangesHoldings places admission layer_number self.old self.new };
 
     /// Replaces one holding by its remainder after the quantity, or changes nothing and says why.
     fn lower(&mut self, provider: u8, quarter: u8, quantity: Self::Q) -> Result<(), BookRefusal>
         ensures answer { answer_number (result_err result) ≡ answer_number (lower_refusal Self.Q.Quantity.measure (holdings self.old) (places self.old) provider quarter quantity) }
         ensures after { amounts Self.Q.Quantity.measure (holdings self.new) ≡ lowered Self.Q.Quantity.measure (holdings self.old) (places self.old) provider quarter quantity }
-        ensures places { places self.new ≡ places self.old }
-        ensures admission { admission self.new ≡ admission self.old }
-        ensures layer { layer_number self.new ≡ layer_number self.old };
+        ensures rest { ChangesHoldings places admission layer_number self.old self.new };
 }

@@ -1,6 +1,7 @@
 ghost use Rattle.std.specs.Prelude.{◌≡◌};
 ghost use Rattle.std.specs.Result.{result_err};
 ghost use Rattle.book.specs.Grid.{amounts};
+ghost use Rattle.book.specs.Rest.{ChangesHoldings};
 ghost use Rattle.awards.specs.Sheets.{view};
 ghost use Rattle.awards.specs.Awards.{award_refusal, award_after, award_sheet};
 
@@ -26,9 +27,7 @@ impl Announcing {
         O::Q: ReserveQuantity,
         ensures answer { result_err result ≡ award_refusal O.Q.Quantity.measure (O.Book.holdings obligations.old) (O.Book.places obligations.old) (O.Book.admission obligations.old) O.Q.ReserveQuantity.directions self.now.day.quarters (view sheet.old).awards award.provider award.block award.quantity prices.now }
         ensures after { amounts O.Q.Quantity.measure (O.Book.holdings obligations.new) ≡ award_after O.Q.Quantity.measure (O.Book.holdings obligations.old) (O.Book.places obligations.old) (O.Book.admission obligations.old) O.Q.ReserveQuantity.directions self.now.day.quarters (view sheet.old).awards award.provider award.block award.quantity prices.now }
-        ensures places { O.Book.places obligations.new ≡ O.Book.places obligations.old }
-        ensures admission { O.Book.admission obligations.new ≡ O.Book.admission obligations.old }
-        ensures layer { O.Book.layer_number obligations.new ≡ O.Book.layer_number obligations.old }
+        ensures rest { ChangesHoldings O.Book.places O.Book.admission O.Book.layer_number obligations.old obligations.new }
         ensures sheet { view sheet.new ≡ award_sheet O.Q.Quantity.measure (O.Book.holdings obligations.old) (O.Book.places obligations.old) (O.Book.admission obligations.old) O.Q.ReserveQuantity.tenths_in O.Q.ReserveQuantity.directions self.now.day.quarters award.provider award.block award.quantity prices.now (view sheet.old) }
     {
         awards::award::award(self.day.quarters, obligations, sheet, award, prices)

@@ -1,6 +1,7 @@
 ghost use Rattle.std.specs.Prelude.{◌≡◌, MatchResult, OnOk};
 ghost use Rattle.std.specs.Result.{result_err};
 ghost use Rattle.book.specs.Grid.{amounts};
+ghost use Rattle.book.specs.Rest.{ChangesHoldings};
 ghost use Rattle.refusals.specs.First.{unless_refused};
 ghost use Rattle.gates.specs.Gates.{after_moves, gated, Judged};
 ghost use Rattle.day.specs.Announcing.{at_minute};
@@ -53,9 +54,7 @@ impl<S: BeforeGate> InStage<S> {
         ensures requests { (L.Records.contents requests.new) ≡ unless_refused (gate_refusal S.gate self.day minute) (gated O.Q.Quantity.measure (O.Book.places obligations.old) (O.Book.admission obligations.old) S.gate (O.Book.holdings obligations.old) (L.Records.contents requests.old)) (L.Records.contents requests.old) }
         ensures after { amounts O.Q.Quantity.measure (O.Book.holdings obligations.new) ≡ unless_refused (gate_refusal S.gate self.day minute) (amounts O.Q.Quantity.measure (after_moves O.Q.Quantity.measure (O.Book.places obligations.old) (O.Book.admission obligations.old) (O.Book.holdings obligations.old) (L.Records.contents requests.old))) (amounts O.Q.Quantity.measure (O.Book.holdings obligations.old)) }
         ensures judged { OnOk result (Judged O.Q.Quantity.measure (O.Book.places obligations.old) (O.Book.admission obligations.old) S.gate (O.Book.holdings obligations.old) (L.Records.contents requests.old) (L.Records.contents requests.new)) }
-        ensures places { O.Book.places obligations.new ≡ O.Book.places obligations.old }
-        ensures admission { O.Book.admission obligations.new ≡ O.Book.admission obligations.old }
-        ensures layer { O.Book.layer_number obligations.new ≡ O.Book.layer_number obligations.old }
+        ensures rest { ChangesHoldings O.Book.places O.Book.admission O.Book.layer_number obligations.old obligations.new }
         ensures room { L.Records.places requests.new ≡ L.Records.places requests.old }
     {
         let later = Day { minute, ..self.day };

@@ -1,5 +1,6 @@
 ghost use Rattle.std.specs.Prelude.{◌≡◌, [], ◌∷◌};
 ghost use Rattle.book.specs.Grid.{amounts};
+ghost use Rattle.book.specs.Rest.{ChangesHoldings};
 ghost use Rattle.refusals.specs.First.{unless_refused};
 ghost use Rattle.awards.specs.Sheets.{view, blank_view};
 ghost use Rattle.awards.specs.Awards.{award_refusal, award_after, award_sheet};
@@ -52,9 +53,7 @@ where
     O::Q: ReserveQuantity,
     ensures answer { said result ≡ in_first stage.now (λ day. unless (award_refusal O.Q.Quantity.measure (O.Book.holdings obligations.old) (O.Book.places obligations.old) (O.Book.admission obligations.old) O.Q.ReserveQuantity.directions day.quarters (view sheet.old).awards award.provider award.block award.quantity prices.now) (numbered (0 ∷ (2 ∷ [])))) not_in_stage }
     ensures after { amounts O.Q.Quantity.measure (O.Book.holdings obligations.new) ≡ in_first stage.now (λ day. award_after O.Q.Quantity.measure (O.Book.holdings obligations.old) (O.Book.places obligations.old) (O.Book.admission obligations.old) O.Q.ReserveQuantity.directions day.quarters (view sheet.old).awards award.provider award.block award.quantity prices.now) (amounts O.Q.Quantity.measure (O.Book.holdings obligations.old)) }
-    ensures places { O.Book.places obligations.new ≡ O.Book.places obligations.old }
-    ensures admission { O.Book.admission obligations.new ≡ O.Book.admission obligations.old }
-    ensures layer { O.Book.layer_number obligations.new ≡ O.Book.layer_number obligations.old }
+    ensures rest { ChangesHoldings O.Book.places O.Book.admission O.Book.layer_number obligations.old obligations.new }
     ensures sheet { view sheet.new ≡ in_first stage.now (λ day. award_sheet O.Q.Quantity.measure (O.Book.holdings obligations.old) (O.Book.places obligations.old) (O.Book.admission obligations.old) O.Q.ReserveQuantity.tenths_in O.Q.ReserveQuantity.directions day.quarters award.provider award.block award.quantity prices.now (view sheet.old)) (view sheet.old) }
 {
     let Stage::Announcing(announcing) = stage else {

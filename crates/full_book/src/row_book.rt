@@ -3,6 +3,7 @@ ghost use Rattle.std.specs.Result.{result_err};
 ghost use Rattle.book.specs.Numbers.{answer_number};
 ghost use Rattle.book.specs.Grid.{in_range, amounts};
 ghost use Rattle.book.specs.Calls.{everything, changed, change_refusal, raise_refusal, lower_refusal, raised, lowered};
+ghost use Rattle.book.specs.Rest.{ChangesHoldings};
 ghost use Rattle.full_book.specs.Rows.{rows_held, rows_places};
 
 use crate::rows;
@@ -84,9 +85,7 @@ impl<M: Slots<Slot = K::Row>, K: Quantity> Book for RowBook<M, K> {
     fn raise(&mut self, provider: u8, quarter: u8, quantity: K) -> Result<(), BookRefusal>
         ensures answer { answer_number (result_err result) ≡ answer_number (raise_refusal K.Quantity.measure (rows_held K.Quantity.measure (M.slots self.old.rows)) (rows_places (M.slots self.old.rows)) everything provider quarter quantity) }
         ensures after { amounts K.Quantity.measure (rows_held K.Quantity.measure (M.slots self.new.rows)) ≡ raised K.Quantity.measure (rows_held K.Quantity.measure (M.slots self.old.rows)) (rows_places (M.slots self.old.rows)) everything provider quarter quantity }
-        ensures places { rows_places (M.slots self.new.rows) ≡ rows_places (M.slots self.old.rows) }
-        ensures admission { everything {Q = K} ≡ everything }
-        ensures layer { ◌≡◌ {A = ℕ} 0 0 }
+        ensures rest { ChangesHoldings (λ s. rows_places (M.slots s.rows)) (λ _. everything {Q = K}) (λ _. 0) self.old self.new }
         ensures beyond { drop 3200 (M.slots self.new.rows) ≡ drop 3200 (M.slots self.old.rows) }
         ensures lender { M.loan self.new.rows ≡ M.loan self.old.rows }
     {
@@ -101,9 +100,7 @@ impl<M: Slots<Slot = K::Row>, K: Quantity> Book for RowBook<M, K> {
     fn lower(&mut self, provider: u8, quarter: u8, quantity: K) -> Result<(), BookRefusal>
         ensures answer { answer_number (result_err result) ≡ answer_number (lower_refusal K.Quantity.measure (rows_held K.Quantity.measure (M.slots self.old.rows)) (rows_places (M.slots self.old.rows)) provider quarter quantity) }
         ensures after { amounts K.Quantity.measure (rows_held K.Quantity.measure (M.slots self.new.rows)) ≡ lowered K.Quantity.measure (rows_held K.Quantity.measure (M.slots self.old.rows)) (rows_places (M.slots self.old.rows)) provider quarter quantity }
-        ensures places { rows_places (M.slots self.new.rows) ≡ rows_places (M.slots self.old.rows) }
-        ensures admission { everything {Q = K} ≡ everything }
-        ensures layer { ◌≡◌ {A = ℕ} 0 0 }
+        ensures rest { ChangesHoldings (λ s. rows_places (M.slots s.rows)) (λ _. everything {Q = K}) (λ _. 0) self.old self.new }
         ensures beyond { drop 3200 (M.slots self.new.rows) ≡ drop 3200 (M.slots self.old.rows) }
         ensures lender { M.loan self.new.rows ≡ M.loan self.old.rows }
     {

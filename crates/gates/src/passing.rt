@@ -2,6 +2,7 @@ ghost use Rattle.std.specs.Prelude.{◌≡◌};
 ghost use Rattle.std.specs.List.{slice_get};
 ghost use Rattle.std.specs.Result.{result_err};
 ghost use Rattle.book.specs.Grid.{amounts};
+ghost use Rattle.book.specs.Rest.{ChangesHoldings};
 ghost use Rattle.requests.specs.Announcing.{changed_at};
 ghost use Rattle.gates.specs.Gates.{AlikeOver, passing, outcome, closed, cause, moved_on, settled, passed_on, passed_at, after_moves, gated, Judged};
 
@@ -51,9 +52,7 @@ fn status_of_move(made: Result<(), Refusal>) -> Status
 fn make_move<O: Book>(obligations: &mut O, request: Request<<O::Q as Quantity>::Row>) -> Status
     ensures status { AlikeOver O.Q.Quantity.measure (O.Book.holdings obligations.old) (λ other. result ≡ outcome (cause O.Q.Quantity.measure (O.Book.places obligations.old) (O.Book.admission obligations.old) other request)) }
     ensures after { AlikeOver O.Q.Quantity.measure (O.Book.holdings obligations.old) (λ other. amounts O.Q.Quantity.measure (O.Book.holdings obligations.new) ≡ amounts O.Q.Quantity.measure (moved_on O.Q.Quantity.measure (O.Book.places obligations.old) (O.Book.admission obligations.old) other request)) }
-    ensures places { O.Book.places obligations.new ≡ O.Book.places obligations.old }
-    ensures admission { O.Book.admission obligations.new ≡ O.Book.admission obligations.old }
-    ensures layer { O.Book.layer_number obligations.new ≡ O.Book.layer_number obligations.old }
+    ensures rest { ChangesHoldings O.Book.places O.Book.admission O.Book.layer_number obligations.old obligations.new }
 {
     let quantity = passing_quantity(request.giving);
     let Passage {
@@ -74,9 +73,7 @@ fn settle_request<O: Book>(
 ) -> Request<<O::Q as Quantity>::Row>
     ensures request { AlikeOver O.Q.Quantity.measure (O.Book.holdings obligations.old) (λ other. result ≡ settled O.Q.Quantity.measure (O.Book.places obligations.old) (O.Book.admission obligations.old) gate other request) }
     ensures after { AlikeOver O.Q.Quantity.measure (O.Book.holdings obligations.old) (λ other. amounts O.Q.Quantity.measure (O.Book.holdings obligations.new) ≡ amounts O.Q.Quantity.measure (passed_on O.Q.Quantity.measure (O.Book.places obligations.old) (O.Book.admission obligations.old) other request)) }
-    ensures places { O.Book.places obligations.new ≡ O.Book.places obligations.old }
-    ensures admission { O.Book.admission obligations.new ≡ O.Book.admission obligations.old }
-    ensures layer { O.Book.layer_number obligations.new ≡ O.Book.layer_number obligations.old }
+    ensures rest { ChangesHoldings O.Book.places O.Book.admission O.Book.layer_number obligations.old obligations.new }
 {
     let status = match request.status {
         Status::BalanceOk => make_move(obligations, request),
@@ -94,9 +91,7 @@ fn settle_at<O: Book, L: Records<Record = Request<<O::Q as Quantity>::Row>>>(
 )
     ensures requests { AlikeOver O.Q.Quantity.measure (O.Book.holdings obligations.old) (λ other. (L.Records.contents requests.new) ≡ changed_at (settled O.Q.Quantity.measure (O.Book.places obligations.old) (O.Book.admission obligations.old) gate other) (L.Records.contents requests.old) place) }
     ensures after { AlikeOver O.Q.Quantity.measure (O.Book.holdings obligations.old) (λ other. amounts O.Q.Quantity.measure (O.Book.holdings obligations.new) ≡ amounts O.Q.Quantity.measure (passed_at O.Q.Quantity.measure (O.Book.places obligations.old) (O.Book.admission obligations.old) other (slice_get (L.Records.contents requests.old) place))) }
-    ensures places { O.Book.places obligations.new ≡ O.Book.places obligations.old }
-    ensures admission { O.Book.admission obligations.new ≡ O.Book.admission obligations.old }
-    ensures layer { O.Book.layer_number obligations.new ≡ O.Book.layer_number obligations.old }
+    ensures rest { ChangesHoldings O.Book.places O.Book.admission O.Book.layer_number obligations.old obligations.new }
     ensures room { L.Records.places requests.new ≡ L.Records.places requests.old }
 {
     if let Some(request) = requests.at(place) {
@@ -115,9 +110,7 @@ pub fn pass_gate<O: Book, L: Records<Record = Request<<O::Q as Quantity>::Row>>>
     ensures requests { (L.Records.contents requests.new) ≡ gated O.Q.Quantity.measure (O.Book.places obligations.old) (O.Book.admission obligations.old) gate (O.Book.holdings obligations.old) (L.Records.contents requests.old) }
     ensures after { amounts O.Q.Quantity.measure (O.Book.holdings obligations.new) ≡ amounts O.Q.Quantity.measure (after_moves O.Q.Quantity.measure (O.Book.places obligations.old) (O.Book.admission obligations.old) (O.Book.holdings obligations.old) (L.Records.contents requests.old)) }
     ensures judged { Judged O.Q.Quantity.measure (O.Book.places obligations.old) (O.Book.admission obligations.old) gate (O.Book.holdings obligations.old) (L.Records.contents requests.old) (L.Records.contents requests.new) }
-    ensures places { O.Book.places obligations.new ≡ O.Book.places obligations.old }
-    ensures admission { O.Book.admission obligations.new ≡ O.Book.admission obligations.old }
-    ensures layer { O.Book.layer_number obligations.new ≡ O.Book.layer_number obligations.old }
+    ensures rest { ChangesHoldings O.Book.places O.Book.admission O.Book.layer_number obligations.old obligations.new }
     ensures room { L.Records.places requests.new ≡ L.Records.places requests.old }
 {
     for place in 0..requests.count() {

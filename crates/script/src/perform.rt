@@ -1,5 +1,6 @@
 ghost use Rattle.std.specs.Prelude.{◌≡◌};
 ghost use Rattle.book.specs.Grid.{amounts};
+ghost use Rattle.book.specs.Rest.{ChangesHoldings};
 ghost use Rattle.script.specs.Performed.{said, answered, after};
 
 use crate::calls::{Answer, Call, NotDone};
@@ -11,9 +12,7 @@ use span_moves::spans::move_span;
 pub fn perform<B: Book>(book: &mut B, call: Call<B::Q>) -> Result<Answer<B::Q>, NotDone>
     ensures answer { said result ≡ answered B.Q.Quantity.measure (B.Book.holdings book.old) (B.Book.places book.old) (B.Book.admission book.old) call }
     ensures after { amounts B.Q.Quantity.measure (B.Book.holdings book.new) ≡ after B.Q.Quantity.measure (B.Book.holdings book.old) (B.Book.places book.old) (B.Book.admission book.old) call }
-    ensures places { B.Book.places book.new ≡ B.Book.places book.old }
-    ensures admission { B.Book.admission book.new ≡ B.Book.admission book.old }
-    ensures layer { B.Book.layer_number book.new ≡ B.Book.layer_number book.old }
+    ensures rest { ChangesHoldings B.Book.places B.Book.admission B.Book.layer_number book.old book.new }
 {
     match call {
         Call::Raise {

@@ -1,6 +1,7 @@
 ghost use Rattle.std.specs.Prelude.{◌≡◌, ◌<◌};
 ghost use Rattle.std.specs.Result.{result_err};
 ghost use Rattle.book.specs.Grid.{amounts};
+ghost use Rattle.book.specs.Rest.{ChangesHoldings};
 ghost use Rattle.span_moves.specs.Spans.{next, misfit, asked};
 ghost use Rattle.span_moves.specs.Ready.{changed_one};
 
@@ -60,9 +61,7 @@ impl Change {
     /// Changes one holding, if the book does not refuse it.
     pub fn apply<B: Book>(self, book: &mut B, provider: Provider, quarter: u8, quantity: B::Q)
         ensures after { amounts B.Q.Quantity.measure (B.Book.holdings book.new) ≡ changed_one B.Q.Quantity.measure (B.Book.holdings book.old) (B.Book.places book.old) (B.Book.admission book.old) self provider.number quarter quantity }
-        ensures places { B.Book.places book.new ≡ B.Book.places book.old }
-        ensures admission { B.Book.admission book.new ≡ B.Book.admission book.old }
-        ensures layer { B.Book.layer_number book.new ≡ B.Book.layer_number book.old }
+        ensures rest { ChangesHoldings B.Book.places B.Book.admission B.Book.layer_number book.old book.new }
     {
         let _ = match self {
             Change::Lowering => book.lower(provider.number, quarter, quantity),

@@ -2,6 +2,7 @@ ghost use Rattle.std.specs.Prelude.{◌≡◌, ◌+◌, ◌-◌, ◌^◌, ◌<�
 ghost use Rattle.std.specs.Result.{result_err};
 ghost use Rattle.quantity.specs.Measure.{is_zero};
 ghost use Rattle.book.specs.Grid.{amounts, taken};
+ghost use Rattle.book.specs.Rest.{ChangesHoldings};
 ghost use Rattle.refusals.specs.First.{first_some};
 ghost use Rattle.span_moves.specs.Spans.{Alike, first_of, unfit, spanned, step_left, left_after, count, no_provider, no_span};
 ghost use Rattle.span_moves.specs.Moves.{unwelcome, change_checks};
@@ -122,9 +123,7 @@ impl<Q: Quantity> SpanChange<Q> {
         ensures after { amounts Q.Quantity.measure (B.Book.holdings book.new) ≡ spanned Q.Quantity.measure (B.Book.holdings book.old) self.change self.provider.number self.quantity self.span.first (self.span.last + 1) }
         ensures left { left_after Q.Quantity.measure (B.Book.holdings book.old) self.change self.provider.number self.quantity (Some (B.Book.places book.old - taken Q.Quantity.measure (B.Book.holdings book.old))) self.span.first (count self.span.first self.span.last) ≡ Some (B.Book.places book.old - taken Q.Quantity.measure (B.Book.holdings book.new)) }
         ensures bound { taken Q.Quantity.measure (B.Book.holdings book.new) ≤ B.Book.places book.old }
-        ensures places { B.Book.places book.new ≡ B.Book.places book.old }
-        ensures admission { B.Book.admission book.new ≡ B.Book.admission book.old }
-        ensures layer { B.Book.layer_number book.new ≡ B.Book.layer_number book.old }
+        ensures rest { ChangesHoldings B.Book.places B.Book.admission B.Book.layer_number book.old book.new }
     {
         for quarter in self.span.first..=self.span.last {
             self.change

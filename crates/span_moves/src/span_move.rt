@@ -1,6 +1,7 @@
 ghost use Rattle.std.specs.Prelude.{◌≡◌, ◌+◌, ◌≢◌, [], ◌∷◌, IfOk, OnOk};
 ghost use Rattle.std.specs.Result.{result_err};
 ghost use Rattle.book.specs.Grid.{amounts};
+ghost use Rattle.book.specs.Rest.{ChangesHoldings};
 ghost use Rattle.refusals.specs.First.{first_some};
 ghost use Rattle.span_moves.specs.Spans.{Alike, no_provider, no_span, one_provider};
 ghost use Rattle.span_moves.specs.Moves.{moved, move_checks};
@@ -84,9 +85,7 @@ impl<Q: Quantity> SpanMove<Q> {
     pub fn apply<B: Book<Q = Q>>(self, book: &mut B)
         requires { ReadyToMove Q.Quantity.measure (B.Book.holdings book.old) (B.Book.places book.old) (B.Book.admission book.old) self.giver.number self.taker.number self.span.first self.span.last self.quantity }
         ensures after { amounts Q.Quantity.measure (B.Book.holdings book.new) ≡ moved Q.Quantity.measure (B.Book.holdings book.old) self.giver.number self.taker.number self.quantity self.span.first (self.span.last + 1) }
-        ensures places { B.Book.places book.new ≡ B.Book.places book.old }
-        ensures admission { B.Book.admission book.new ≡ B.Book.admission book.old }
-        ensures layer { B.Book.layer_number book.new ≡ B.Book.layer_number book.old }
+        ensures rest { ChangesHoldings B.Book.places B.Book.admission B.Book.layer_number book.old book.new }
     {
         self.change(Change::Lowering, self.giver).apply(book);
         self.change(Change::Raising, self.taker).apply(book);

@@ -1,6 +1,7 @@
 ghost use Rattle.std.specs.Prelude.{◌≡◌, OnOk};
 ghost use Rattle.std.specs.Result.{result_err};
 ghost use Rattle.book.specs.Grid.{amounts};
+ghost use Rattle.book.specs.Rest.{ChangesHoldings};
 ghost use Rattle.refusals.specs.Numbers.{answer_number};
 ghost use Rattle.span_moves.specs.Spans.{Alike};
 ghost use Rattle.span_moves.specs.Moves.{span_refusal, span_after, move_refusal, move_after, Passed};
@@ -24,9 +25,7 @@ fn change_span<B: Book>(
     ensures answer { answer_number (result_err result) ≡ answer_number (span_refusal B.Q.Quantity.measure (B.Book.holdings book.old) (B.Book.places book.old) (B.Book.admission book.old) change provider first last quantity) }
     ensures alike { Alike B.Q.Quantity.measure (B.Book.holdings book.old) quantity (λ other q. span_refusal B.Q.Quantity.measure other (B.Book.places book.old) (B.Book.admission book.old) change provider first last q) (result_err result) }
     ensures after { amounts B.Q.Quantity.measure (B.Book.holdings book.new) ≡ span_after B.Q.Quantity.measure (B.Book.holdings book.old) (B.Book.places book.old) (B.Book.admission book.old) change provider first last quantity }
-    ensures places { B.Book.places book.new ≡ B.Book.places book.old }
-    ensures admission { B.Book.admission book.new ≡ B.Book.admission book.old }
-    ensures layer { B.Book.layer_number book.new ≡ B.Book.layer_number book.old }
+    ensures rest { ChangesHoldings B.Book.places B.Book.admission B.Book.layer_number book.old book.new }
 {
     let planned = SpanChange::new(change, provider, first, last, quantity)?;
     planned.check(book)?;
@@ -45,9 +44,7 @@ pub fn raise_span<B: Book>(
     ensures answer { answer_number (result_err result) ≡ answer_number (span_refusal B.Q.Quantity.measure (B.Book.holdings book.old) (B.Book.places book.old) (B.Book.admission book.old) Raising provider first last quantity) }
     ensures alike { Alike B.Q.Quantity.measure (B.Book.holdings book.old) quantity (λ other q. span_refusal B.Q.Quantity.measure other (B.Book.places book.old) (B.Book.admission book.old) Raising provider first last q) (result_err result) }
     ensures after { amounts B.Q.Quantity.measure (B.Book.holdings book.new) ≡ span_after B.Q.Quantity.measure (B.Book.holdings book.old) (B.Book.places book.old) (B.Book.admission book.old) Raising provider first last quantity }
-    ensures places { B.Book.places book.new ≡ B.Book.places book.old }
-    ensures admission { B.Book.admission book.new ≡ B.Book.admission book.old }
-    ensures layer { B.Book.layer_number book.new ≡ B.Book.layer_number book.old }
+    ensures rest { ChangesHoldings B.Book.places B.Book.admission B.Book.layer_number book.old book.new }
 {
     change_span(book, Change::Raising, provider, first, last, quantity)
 }
@@ -63,9 +60,7 @@ pub fn lower_span<B: Book>(
     ensures answer { answer_number (result_err result) ≡ answer_number (span_refusal B.Q.Quantity.measure (B.Book.holdings book.old) (B.Book.places book.old) (B.Book.admission book.old) Lowering provider first last quantity) }
     ensures alike { Alike B.Q.Quantity.measure (B.Book.holdings book.old) quantity (λ other q. span_refusal B.Q.Quantity.measure other (B.Book.places book.old) (B.Book.admission book.old) Lowering provider first last q) (result_err result) }
     ensures after { amounts B.Q.Quantity.measure (B.Book.holdings book.new) ≡ span_after B.Q.Quantity.measure (B.Book.holdings book.old) (B.Book.places book.old) (B.Book.admission book.old) Lowering provider first last quantity }
-    ensures places { B.Book.places book.new ≡ B.Book.places book.old }
-    ensures admission { B.Book.admission book.new ≡ B.Book.admission book.old }
-    ensures layer { B.Book.layer_number book.new ≡ B.Book.layer_number book.old }
+    ensures rest { ChangesHoldings B.Book.places B.Book.admission B.Book.layer_number book.old book.new }
 {
     change_span(book, Change::Lowering, provider, first, last, quantity)
 }
@@ -84,9 +79,7 @@ pub fn move_span<B: Book>(
     ensures alike { Alike B.Q.Quantity.measure (B.Book.holdings book.old) quantity (λ other q. move_refusal B.Q.Quantity.measure other (B.Book.places book.old) (B.Book.admission book.old) giver taker first last q) (result_err result) }
     ensures after { amounts B.Q.Quantity.measure (B.Book.holdings book.new) ≡ move_after B.Q.Quantity.measure (B.Book.holdings book.old) (B.Book.places book.old) (B.Book.admission book.old) giver taker first last quantity }
     ensures passed { OnOk result (Passed B.Q.Quantity.measure (amounts B.Q.Quantity.measure (B.Book.holdings book.old)) (amounts B.Q.Quantity.measure (B.Book.holdings book.new)) giver taker first last (B.Q.Quantity.measure.amount quantity)) }
-    ensures places { B.Book.places book.new ≡ B.Book.places book.old }
-    ensures admission { B.Book.admission book.new ≡ B.Book.admission book.old }
-    ensures layer { B.Book.layer_number book.new ≡ B.Book.layer_number book.old }
+    ensures rest { ChangesHoldings B.Book.places B.Book.admission B.Book.layer_number book.old book.new }
 {
     let planned = SpanMove::new(giver, taker, first, last, quantity)?;
     planned.check(book)?;

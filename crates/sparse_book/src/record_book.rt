@@ -3,6 +3,7 @@ ghost use Rattle.std.specs.Result.{result_err};
 ghost use Rattle.book.specs.Numbers.{answer_number};
 ghost use Rattle.book.specs.Grid.{in_range, amounts};
 ghost use Rattle.book.specs.Calls.{everything, changed, change_refusal, raise_refusal, lower_refusal, raised, lowered};
+ghost use Rattle.book.specs.Rest.{ChangesHoldings};
 ghost use Rattle.sparse_book.specs.Records.{apart, records_held, changed_slots, raised_slots, lowered_slots};
 
 use crate::record::Record;
@@ -94,9 +95,7 @@ impl<M: Slots<Slot = Option<Record<K::Row>>>, K: Quantity> Book for RecordBook<M
     fn raise(&mut self, provider: u8, quarter: u8, quantity: K) -> Result<(), BookRefusal>
         ensures answer { answer_number (result_err result) ≡ answer_number (raise_refusal K.Quantity.measure (records_held K.Quantity.measure (M.slots self.old.slots)) (length (M.slots self.old.slots)) everything provider quarter quantity) }
         ensures after { amounts K.Quantity.measure (records_held K.Quantity.measure (M.slots self.new.slots)) ≡ raised K.Quantity.measure (records_held K.Quantity.measure (M.slots self.old.slots)) (length (M.slots self.old.slots)) everything provider quarter quantity }
-        ensures places { length (M.slots self.new.slots) ≡ length (M.slots self.old.slots) }
-        ensures admission { everything {Q = K} ≡ everything }
-        ensures layer { ◌≡◌ {A = ℕ} 0 0 }
+        ensures rest { ChangesHoldings (λ s. length (M.slots s.slots)) (λ _. everything {Q = K}) (λ _. 0) self.old self.new }
         ensures slots { M.slots self.new.slots ≡ raised_slots K.Quantity.measure (M.slots self.old.slots) provider quarter quantity }
         ensures lender { M.loan self.new.slots ≡ M.loan self.old.slots }
     {
@@ -111,9 +110,7 @@ impl<M: Slots<Slot = Option<Record<K::Row>>>, K: Quantity> Book for RecordBook<M
     fn lower(&mut self, provider: u8, quarter: u8, quantity: K) -> Result<(), BookRefusal>
         ensures answer { answer_number (result_err result) ≡ answer_number (lower_refusal K.Quantity.measure (records_held K.Quantity.measure (M.slots self.old.slots)) (length (M.slots self.old.slots)) provider quarter quantity) }
         ensures after { amounts K.Quantity.measure (records_held K.Quantity.measure (M.slots self.new.slots)) ≡ lowered K.Quantity.measure (records_held K.Quantity.measure (M.slots self.old.slots)) (length (M.slots self.old.slots)) provider quarter quantity }
-        ensures places { length (M.slots self.new.slots) ≡ length (M.slots self.old.slots) }
-        ensures admission { everything {Q = K} ≡ everything }
-        ensures layer { ◌≡◌ {A = ℕ} 0 0 }
+        ensures rest { ChangesHoldings (λ s. length (M.slots s.slots)) (λ _. everything {Q = K}) (λ _. 0) self.old self.new }
         ensures slots { M.slots self.new.slots ≡ lowered_slots K.Quantity.measure (M.slots self.old.slots) provider quarter quantity }
         ensures lender { M.loan self.new.slots ≡ M.loan self.old.slots }
     {

@@ -24,9 +24,7 @@ returns-in_err-check_award g c =
       answer = ap answer_number (told ∙ why);
       alike = λ other q e f. told ∙ alike other q e f;
       after = rw (sym why);
-      places = refl;
-      admission = refl;
-      layer = refl;
+      rest = record { places_stay = refl; admission_stays = refl; layer_stays = refl };
       sheet = rw (sym why);
     }
 
@@ -49,9 +47,7 @@ returns-in_err-raise_span g c =
       answer = ap answer_number (told ∙ why);
       alike = λ other q e f. told ∙ alike other q e f;
       after = span.after ∙ changed_as_span m held places admission directions c.args.quarters sheet award.provider award.block c.args.prices.now award.quantity c.in_ok-check_award.ensures c.block_first-first.result c.block_last-last.result c.block_first-first.ensures c.block_last-last.ensures.value (Some r) span.alike;
-      places = span.places;
-      admission = span.admission;
-      layer = span.layer;
+      rest = span.rest;
       sheet = rw (sym why);
     }
 
@@ -75,8 +71,6 @@ returns g c =
       answer = ap answer_number why;
       alike = alike;
       after = span.after ∙ changed_as_span m held places admission directions c.args.quarters sheet award.provider award.block c.args.prices.now award.quantity c.in_ok-check_award.ensures c.block_first-first.result c.block_last-last.result c.block_first-first.ensures c.block_last-last.ensures.value None span.alike;
-      places = span.places;
-      admission = span.admission;
-      layer = span.layer;
+      rest = span.rest;
       sheet = rw (sym why) ((rw enters at c.enter.ensures) ∙ ap (λ amount. entered award.provider amount sheet) (earned.value ∙ ap (award_earns (g.O.Q.ReserveQuantity.tenths_in award.quantity) c.args.prices.now directions) count));
     }

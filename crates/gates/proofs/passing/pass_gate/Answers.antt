@@ -1,5 +1,6 @@
 use Rattle.std.proofs.Common.{take, sym, refl, ap, ◌∙◌, arith}
 use Rattle.book.specs.Grid.{amounts}
+use Rattle.book.proofs.Rests.{changed_twice}
 use Rattle.gates.specs.Gates.{after_moves}
 use Rattle.gates.proofs.Lists.{midway_start, midway_end, settled_next, moved_next, gate_judges}
 use Rattle.gates.proofs.passing.pass_gate.Goals as goal
@@ -12,9 +13,7 @@ loop-place-init g c =
     record {
       requests = sym (midway_start m (g.O.Book.places book) (g.O.Book.admission book) c.args.gate (g.O.Book.holdings book) (g.L.Records.contents c.args.requests.now));
       after = refl;
-      places = refl;
-      admission = refl;
-      layer = refl;
+      rest = record { places_stay = refl; admission_stays = refl; layer_stays = refl };
       room = refl;
     }
 
@@ -33,11 +32,9 @@ loop-place-preserved g c =
     let requests = turn.requests left (sym inv.after) in
     let after = turn.after left (sym inv.after) in
     record {
-      requests = (rw (inv.places, inv.admission, inv.requests) at requests) ∙ settled_next m places admission c.args.gate held xs i;
-      after = (rw (inv.places, inv.admission, inv.requests) at after) ∙ ap (amounts m) (moved_next m places admission c.args.gate held xs i);
-      places = turn.places ∙ inv.places;
-      admission = turn.admission ∙ inv.admission;
-      layer = turn.layer ∙ inv.layer;
+      requests = (rw (inv.rest.places_stay, inv.rest.admission_stays, inv.requests) at requests) ∙ settled_next m places admission c.args.gate held xs i;
+      after = (rw (inv.rest.places_stay, inv.rest.admission_stays, inv.requests) at after) ∙ ap (amounts m) (moved_next m places admission c.args.gate held xs i);
+      rest = changed_twice g.O.Book.places g.O.Book.admission g.O.Book.layer_number _ _ _ inv.rest turn.rest;
       room = turn.room ∙ inv.room;
     }
 

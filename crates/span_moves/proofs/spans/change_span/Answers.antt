@@ -26,9 +26,7 @@ returns-in_err-planned g c =
       answer = rw (p.1, p.2) (ap answer_number why);
       alike = λ other r e f. rw (p.1, p.2, no) refl;
       after = rw (span_after-is (Some c.in_err-planned.field-0.0)) refl;
-      places = refl;
-      admission = refl;
-      layer = refl;
+      rest = record { places_stay = refl; admission_stays = refl; layer_stays = refl };
     }
 
 pub returns-in_err-check : goal.returns-in_err-check
@@ -41,9 +39,7 @@ returns-in_err-check g c =
       answer = rw (p.1, p.2) (ap answer_number why);
       alike = rw (p.1, p.2) told;
       after = rw (span_after-is (Some c.in_err-check.field-0.0)) refl;
-      places = refl;
-      admission = refl;
-      layer = refl;
+      rest = record { places_stay = refl; admission_stays = refl; layer_stays = refl };
     }
 
 pub returns : goal.returns
@@ -57,7 +53,5 @@ returns g c =
       answer = ap answer_number why;
       alike = told;
       after = rw (span_after-is None) changed;
-      places = c.apply.ensures.places;
-      admission = c.apply.ensures.admission;
-      layer = c.apply.ensures.layer;
+      rest = c.apply.ensures.rest;
     }

@@ -28,9 +28,7 @@ returns-in_err-planned g c =
       alike = λ other r e f. rw (p.1, p.2, no) refl;
       after = rw (move_after-is (Some c.in_err-planned.field-0.0)) refl;
       passed = rw p.1 tt;
-      places = refl;
-      admission = refl;
-      layer = refl;
+      rest = record { places_stay = refl; admission_stays = refl; layer_stays = refl };
     }
 
 pub returns-in_err-check : goal.returns-in_err-check
@@ -44,9 +42,7 @@ returns-in_err-check g c =
       alike = rw (p.1, p.2) told;
       after = rw (move_after-is (Some c.in_err-check.field-0.0)) refl;
       passed = rw p.1 tt;
-      places = refl;
-      admission = refl;
-      layer = refl;
+      rest = record { places_stay = refl; admission_stays = refl; layer_stays = refl };
     }
 
 pub returns : goal.returns
@@ -61,7 +57,5 @@ returns g c =
       alike = told;
       after = rw (move_after-is None) changed;
       passed = rw changed (move_passes g.B.Q.Quantity.measure held (g.B.Book.places c.args.book.now) (g.B.Book.admission c.args.book.now) c.args.giver c.args.taker c.args.first c.args.last c.args.quantity (sym why));
-      places = c.apply.ensures.places;
-      admission = c.apply.ensures.admission;
-      layer = c.apply.ensures.layer;
+      rest = c.apply.ensures.rest;
     }

@@ -24,9 +24,7 @@ returns-then-not-in_range g c =
     record {
       answer = ap answer_number (sym (raise_outside m held places p t q own out));
       after = raise_outside_after m held places p t q own out;
-      places = refl;
-      admission = refl;
-      layer = refl;
+      rest = record { places_stay = refl; admission_stays = refl; layer_stays = refl };
     }
 
 pub returns-in_default : goal.returns-in_default
@@ -47,9 +45,7 @@ returns-in_default g c =
     record {
       answer = ap answer_number (sym why);
       after = raise_refused_after m held places p t q own SumDoesNotFit why;
-      places = refl;
-      admission = refl;
-      layer = refl;
+      rest = record { places_stay = refl; admission_stays = refl; layer_stays = refl };
     }
 
 pub returns-in_err-admits : goal.returns-in_err-admits
@@ -70,9 +66,7 @@ returns-in_err-admits g c =
     record {
       answer = rw (e.1, e.2) (ap (λ xs. 18 ∷ xs) w.2 ∙ ap answer_number (sym why));
       after = raise_refused_after m held (g.B.Book.places s.below) p t c.args.quantity own (NotAdmitted w.0) why;
-      places = refl;
-      admission = refl;
-      layer = refl;
+      rest = record { places_stay = refl; admission_stays = refl; layer_stays = refl };
     }
 
 pub returns : goal.returns
@@ -94,7 +88,9 @@ returns g c =
     record {
       answer = c.raise.ensures.answer ∙ ap answer_number (sym (raise_same m held places p t q inside c.in-Some.sum is own below same));
       after = c.raise.ensures.after ∙ sym (raised_same m held places p t q inside c.in-Some.sum is own below same);
-      places = c.raise.ensures.places;
-      admission = ap (λ n. limited s.limits (next_layer n) (g.B.Book.admission c.raise.new.self) g.B.Q.ReserveQuantity.tenths_in) c.raise.ensures.layer ∙ ap (λ a. limited s.limits layer a g.B.Q.ReserveQuantity.tenths_in) c.raise.ensures.admission;
-      layer = ap next_layer c.raise.ensures.layer;
+      rest = record {
+        places_stay = c.raise.ensures.rest.places_stay;
+        admission_stays = ap (λ n. limited s.limits (next_layer n) (g.B.Book.admission c.raise.new.self) g.B.Q.ReserveQuantity.tenths_in) c.raise.ensures.rest.layer_stays ∙ ap (λ a. limited s.limits layer a g.B.Q.ReserveQuantity.tenths_in) c.raise.ensures.rest.admission_stays;
+        layer_stays = ap next_layer c.raise.ensures.rest.layer_stays;
+      };
     }

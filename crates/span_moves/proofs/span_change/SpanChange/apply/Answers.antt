@@ -18,7 +18,7 @@ stepped g c =
     let p = c.args.self.provider.number in
     let q = c.args.self.quantity in
     let t = c.loop-quarter.quarter in
-    let is : amounts m (g.B.Book.holdings c.apply.new.book) ≡ changed_one m held (g.B.Book.places c.args.book.now) (g.B.Book.admission c.args.book.now) change p t q = rw (← inv.places, ← inv.admission) c.apply.ensures.after in
+    let is : amounts m (g.B.Book.holdings c.apply.new.book) ≡ changed_one m held (g.B.Book.places c.args.book.now) (g.B.Book.admission c.args.book.now) change p t q = rw (← inv.rest.places_stay, ← inv.rest.admission_stays) c.apply.ensures.after in
     next_quarter m (g.B.Book.holdings c.args.book.now) (g.B.Book.places c.args.book.now) (g.B.Book.admission c.args.book.now) change p c.args.self.span.first c.args.self.span.last q c.args.self.provider.there c.args.self.span.within c.requires t (omega arith) (omega arith) held (record { so_far = inv.so_far; left_is = inv.left_is; bound = inv.bound }) (g.B.Book.holdings c.apply.new.book) is
 
 pub loop-quarter-init : goal.loop-quarter-init
@@ -27,9 +27,7 @@ loop-quarter-init g c = record {
   so_far = sym (spanned-none g.Q.Quantity.measure (g.B.Book.holdings c.args.book.now) c.args.self.change c.args.self.provider.number c.args.self.quantity c.args.self.span.first);
   left_is = rw (let w : c.args.self.span.first - c.args.self.span.first ≡ 0 = omega arith in w) refl;
   bound = c.requires.bound;
-  places = refl;
-  admission = refl;
-  layer = refl;
+  rest = record { places_stay = refl; admission_stays = refl; layer_stays = refl };
 }
 
 pub loop-quarter-preserved : goal.loop-quarter-preserved
@@ -39,9 +37,7 @@ loop-quarter-preserved g c =
       so_far = s.so_far;
       left_is = s.left_is;
       bound = s.bound;
-      places = cc;
-      admission = cc;
-      layer = cc;
+      rest = record { places_stay = cc; admission_stays = cc; layer_stays = cc };
     }
 
 pub returns-2-clause-after : goal.returns-2-clause-after

@@ -18,7 +18,7 @@ apply-requires-2 g c =
     let x = c.args.self in
     let low = lowered g (goal.at.apply-requires-2 g c).After-apply in
     let left = rw c.change.ensures at c.apply.ensures.left in
-    rw (c.change-2.ensures, c.apply.ensures.places, c.apply.ensures.admission) (record {
+    rw (c.change-2.ensures, c.apply.ensures.rest.places_stay, c.apply.ensures.rest.admission_stays) (record {
       fits = λ t l h. still_takes m held held1 x.giver.number x.taker.number x.quantity x.span.first (x.span.last + 1) x.apart low t (c.requires.fits t l h);
       welcome = λ t l h. still_welcome m held held1 x.giver.number x.taker.number x.quantity x.span.first (x.span.last + 1) x.apart low (g.B.Book.places c.args.book.now) (g.B.Book.admission c.args.book.now) t (c.requires.welcome t l h);
       bound = c.apply.ensures.bound;
