@@ -87,9 +87,6 @@ module _ {Q R : Type 0} (m : Measure Q R) (held other : Grid Q) (p : ℕ) (q r :
   both_next : (change : Change) (t : ℕ) → Same m (next m change (other p t) r) (next m change (held p t) q)
   both_next change t = next_same m (other p t) (held p t) r q (row t) f change
 
-  pub unfit_row : (change : Change) (lo n : ℕ) → first_of (unfit m other change p r) lo n ≡ first_of (unfit m held change p q) lo n
-  unfit_row change lo n = ap (λ g. first_of g lo n) (fun_ext (λ t. unless_same m (misfit change p t) (next m change (other p t) r) (next m change (held p t) q) (both_next change t)))
-
   pub became_row : (change : Change) (t : ℕ) → m.amount (becomes m other change p r t) ≡ m.amount (becomes m held change p q t)
   became_row change t = value_same m (other p t) (held p t) (row t) (next m change (other p t) r) (next m change (held p t) q) (both_next change t)
 
@@ -123,7 +120,7 @@ module _ {Q R : Type 0} (m : Measure Q R) (held other : Grid Q) (e : amounts m o
 
   module _ (q r : Q) (f : m.amount r ≡ m.amount q) (change : Change) (p : ℕ) where
     pub fits_alike : (lo n : ℕ) → first_of (unfit m other change p r) lo n ≡ first_of (unfit m held change p q) lo n
-    fits_alike lo n = unfit_row m held other p q r (rows p) f change lo n
+    fits_alike lo n = ap (λ g. first_of g lo n) (fun_ext (λ t. unless_same m (misfit change p t) (next m change (other p t) r) (next m change (held p t) q) (next_same m (other p t) (held p t) r q (rows p t) f change)))
 
     pub lefts_alike : (free : Option ℕ) (lo n : ℕ) → left_after m other change p r free lo n ≡ left_after m held change p q free lo n
     lefts_alike free lo n = left_row m held other p q r (rows p) f change free lo n

@@ -1,26 +1,11 @@
 -- The first refusal among the quarters of a span.
-use Rattle.std.proofs.Common.{◌≡◌, ℕ, zero, suc, ◌+◌, ◌<◌, ◌≤◌, Some, None, true, is_some, Option, Result, Ok, Err, refl, ⊎_elim, arith}
+use Rattle.std.proofs.Common.{◌≡◌, ℕ, zero, suc, ◌+◌, ◌<◌, ◌≤◌, Some, None, true, is_some, Option, refl, ⊎_elim, arith}
 use Rattle.std.proofs.lemmas.Bool.{cases_eq}
-use Rattle.std.specs.Option.{ok_or}
 use Rattle.quantity.specs.Measure.{Measure}
 use Rattle.book.specs.Grid.{Grid}
 use Rattle.refusals.specs.declared.refusal.Refusal.{Refusal}
-use Rattle.refusals.specs.declared.refusal.Refusal.TheVariants.{NoFreePlace}
 use Rattle.span_moves.specs.declared.change.Change.{Change}
 use Rattle.span_moves.specs.Spans.{next, misfit, first_of, unless_some, unfit, count}
-
--- the refusal that `ok_or` gives
-pub unless_some-ok_or : {Q : Type 0} (o : Option Q) (refusal e : Refusal) → Err e ≡ ok_or o refusal → unless_some refusal o ≡ Some e
-unless_some-ok_or None refusal e h = grind arith
-unless_some-ok_or (Some x) refusal e h = grind arith
-
-pub none-ok_or : (o : Option ℕ) (e : Refusal) → Err e ≡ ok_or o NoFreePlace → (o ≡ None) × (e ≡ NoFreePlace)
-none-ok_or None e h = (refl, grind arith)
-none-ok_or (Some x) e h = absurd (grind arith)
-
-pub some-ok_or : (o : Option ℕ) (n : ℕ) → ◌≡◌ {A = Result ℕ Refusal} (Ok n) (ok_or o NoFreePlace) → o ≡ Some n
-some-ok_or None n h = grind arith
-some-ok_or (Some x) n h = grind arith
 
 -- nothing is refused in the quarters from lo on and before hi
 abbrev pub Clear : (ℕ → Option Refusal) → ℕ → ℕ → Type 0

@@ -22,11 +22,7 @@ unfolding left
 loop-quarter-init g c = rw (let w : c.args.self.span.first - c.args.self.span.first ≡ 0 = omega arith in w) refl
 
 pub after_step-requires : goal.after_step-requires
-after_step-requires g c =
-    let m = g.Q.Quantity.measure in
-    let held = g.B.Book.holdings c.args.book.now in
-    let p = c.args.self.provider.number in
-    omega (arith, left-le (λ t. is_zero m (held p t)) (λ t. is_zero m (becomes m held c.args.self.change p c.args.self.quantity t)) c.args.free c.args.self.span.first (c.loop-quarter.quarter - c.args.self.span.first) c.loop-quarter.left c.loop-quarter.invariant)
+after_step-requires g c = grind (arith, left-le)
 
 pub returns-in_err-left : goal.returns-in_err-left
 returns-in_err-left g c =
