@@ -7,13 +7,12 @@ use Rattle.book.specs.Grid.{Grid, amounts, total, filled, taken}
 use Rattle.book.proofs.Counts.{taken_is}
 use Rattle.refusals.specs.declared.refusal.Refusal.TheVariants.{NoSuchDayLength, NoSuchDayNumber, NotEmpty}
 use Rattle.refusals.specs.First.{when}
-use Rattle.refusals.proofs.Firsts.{alone, none_both}
+use Rattle.refusals.proofs.Firsts.{alone, none_both, when_none}
 use Rattle.requests.specs.declared.request.Request.{Request}
 use Rattle.day.specs.Opening.{day_length, nothing_held, opening_refusal}
 use Rattle.std.specs.List.{slice_get}
 use Rattle.laws.specs.Laws.{Founded}
 use Rattle.laws.specs.Sums.{sum_from}
-use Rattle.laws.proofs.Parts.{when_none}
 use Rattle.laws.proofs.Stands.{Words, out_at, in_at, passed_out, passed_in, Volume, AllFounded}
 
 -- where a total is 0, each part is
