@@ -1,19 +1,20 @@
 -- What a taken announcement makes of the last words and of the requests: one request is heard, and no volume passes.
-use Rattle.std.proofs.Common.{◌≡◌, ℕ, ◌<◌, Bool, true, false, cond, not, eqb, ltb, List, [], ◌∷◌, ◌++◌, length, drop, set, Some, None, Option, unwrap_or, sym, refl, ap, ◌∙◌, subst, ⊎_elim, zero-add, arith}
-use Rattle.std.proofs.lemmas.Bool.{false≢true, not-false, cases_eq, eq-eqb, ne_eqb, ltb-true, and_parts}
+use Rattle.std.proofs.Common.{◌≡◌, ℕ, ◌<◌, Bool, true, false, cond, eqb, List, [], ◌∷◌, ◌++◌, length, drop, set, Some, None, Option, unwrap_or, sym, refl, ap, ◌∙◌, subst, ⊎_elim, zero-add, arith}
+use Rattle.std.proofs.lemmas.Bool.{false≢true, cases_eq, eq-eqb, ne_eqb, and_parts}
 use Rattle.std.proofs.lemmas.Grind.{common_steps}
 use Rattle.std.proofs.lemmas.Option.{gets}
 use Rattle.std.specs.List.{slice_get, position}
+use Rattle.std.proofs.lemmas.Bool.Decides.{nat_tests}
 use Rattle.quantity.specs.Measure.{Measure}
 use Rattle.book.specs.Grid.{Grid}
 use Rattle.refusals.specs.declared.refusal.Refusal.{Refusal}
-use Rattle.refusals.specs.declared.refusal.Refusal.TheVariants.{NoSuchProvider, NoRequestToChange, NoPlaceInList}
+use Rattle.refusals.specs.declared.refusal.Refusal.TheVariants.{NoRequestToChange, NoPlaceInList}
 use Rattle.refusals.specs.First.{unless_refused}
-use Rattle.refusals.proofs.Firsts.{alone, none_both, front_passes, when_none}
+use Rattle.refusals.proofs.Firsts.{alone, none_both, front_passes}
 use Rattle.requests.specs.declared.request.Side.{Side}
 use Rattle.requests.specs.declared.request.Side.TheVariants.{Giver, Taker}
 use Rattle.requests.specs.declared.request.Status.{Status}
-use Rattle.requests.specs.declared.request.Status.TheVariants.{WaitingForCounterpart, BalanceOk, BalanceError, Confirmed, Rejected, Waiting, Accepted, Declined, Lapsed}
+use Rattle.requests.specs.declared.request.Status.TheVariants.{BalanceOk, BalanceError}
 use Rattle.requests.specs.declared.request.Request.{Request}
 use Rattle.requests.specs.declared.finding.Joining.{Joining}
 use Rattle.requests.specs.declared.finding.Joining.TheVariants.{Unresolved, NotBalanced}
@@ -46,21 +47,11 @@ nth_more_else xs j y n = grind (arith, common_steps, gets)
 
 -- a request that may be joined has not passed anything on
 joins_open : (j : Joining) (status : Status) → joins j status ≡ true → is_confirmed status ≡ false
-joins_open j WaitingForCounterpart e = refl
-joins_open Unresolved BalanceOk e = refl
-joins_open NotBalanced BalanceOk e = refl
-joins_open j BalanceError e = refl
-joins_open j Confirmed e = sym e
-joins_open j (Rejected c) e = refl
-joins_open j Waiting e = refl
-joins_open j Accepted e = refl
-joins_open j Declined e = refl
-joins_open j Lapsed e = refl
+joins_open j status e = grind (arith, common_steps)
 
 -- where there is no request to join or to make, the list stays
 no_place : {E : Type 0} (b : Bool) (xs ys : List E) (r : Refusal) → cond b None (Some NoPlaceInList) ≡ Some r → cond b ys xs ≡ xs
-no_place true xs ys r e = absurd (none_some r e)
-no_place false xs ys r e = refl
+no_place b xs ys r e = grind (arith, nat_tests)
 
 list_stays : {E : Type 0} (joining : Joining) (xs : List E) (room : ℕ) (change : E → E) (y : E) (o : Option ℕ) (r : Refusal) → refusal_of joining xs room o ≡ Some r → list_of joining xs room change y o ≡ xs
 list_stays joining xs room change y (Some k) r e = absurd (none_some r e)
@@ -69,8 +60,7 @@ list_stays NotBalanced xs room change y None r e = refl
 
 module _ {Q R : Type 0} (m : Measure Q R) where
   balance_if : (b : Bool) → is_confirmed (cond b BalanceOk BalanceError) ≡ false
-  balance_if true = refl
-  balance_if false = refl
+  balance_if b = grind (arith, nat_tests)
 
   balance_open : (giving taking : Option R) → is_confirmed (balance m giving taking) ≡ false
   balance_open None taking = refl
@@ -83,8 +73,7 @@ module _ {Q R : Type 0} (m : Measure Q R) where
 
   -- where both sides agree, the giver announced the amount that was announced last
   agreed_if : (b : Bool) → agreed (cond b BalanceOk BalanceError) ≡ true → b ≡ true
-  agreed_if true e = refl
-  agreed_if false e = e
+  agreed_if b e = grind (arith, nat_tests)
 
   taker_says : (giving : Option R) (q : Q) → agreed (balance m giving (Some (m.row q))) ≡ true → m.amount q ≡ m.amount (passing m giving)
   taker_says None q e = absurd (false≢true e)
@@ -193,7 +182,7 @@ module _ {Q R : Type 0} (m : Measure Q R) where
       goes_by NotBalanced None e f says = absurd (none_some NoRequestToChange (sym f))
 
     provider_there : (p : ℕ) → no_provider p ≡ None → p < 32
-    provider_there p e = ltb-true p 32 (not-false (ltb p 32) (when_none (not (ltb p 32)) NoSuchProvider e))
+    provider_there p e = grind (arith, nat_tests)
 
     pub goes : announce_refusal m day joining a xs room ≡ None → Says (announcement_place joining xs a.passage) → AllFounded m words xs → Goes (announced_list m day joining a xs room)
     unfolding announce_refusal announced_list announcement_refusal announcement_place announcement_list

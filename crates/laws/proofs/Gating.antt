@@ -1,6 +1,7 @@
 -- What a gate passes on is what it confirms: the volumes stay in balance, request by request.
 use Rattle.std.proofs.Common.{◌≡◌, ℕ, zero, suc, ◌+◌, true, cond, List, [], ◌∷◌, Some, None, Option, sym, refl, ap, ◌∙◌, arith}
 use Rattle.std.specs.List.{slice_get}
+use Rattle.std.proofs.lemmas.Grind.{common_steps}
 use Rattle.quantity.specs.Measure.{Measure}
 use Rattle.book.specs.Grid.{Grid, amounts}
 use Rattle.book.specs.Admissions.{Admission}
@@ -23,17 +24,7 @@ use Rattle.laws.proofs.Stands.{Words, out_at, in_at, passed_out, passed_in, Volu
 
 -- a request that agrees after a gate agreed before it
 still_agreed : (gate : Gate) (why : Option Refusal) (status : Status) → agreed (judged gate why status) ≡ true → agreed status ≡ true
-still_agreed First why WaitingForCounterpart e = e
-still_agreed Second why WaitingForCounterpart e = e
-still_agreed gate why BalanceOk e = refl
-still_agreed First why BalanceError e = e
-still_agreed Second why BalanceError e = e
-still_agreed gate why Confirmed e = e
-still_agreed gate why (Rejected x) e = e
-still_agreed gate why Waiting e = e
-still_agreed gate why Accepted e = e
-still_agreed gate why Declined e = e
-still_agreed gate why Lapsed e = e
+still_agreed gate why status e = grind (arith, common_steps)
 
 module _ {Q R : Type 0} (m : Measure Q R) where
   -- the last word says what the request says
@@ -53,14 +44,7 @@ module _ {Q R : Type 0} (m : Measure Q R) where
   -- one request and the rest: h is what is held before, n after the one, l after all
   both : (h n l s s' v v' ss ss' vs vs' : m.Amount) → m.plus (m.plus n s') v ≡ m.plus (m.plus h s) v' → m.plus (m.plus l ss') vs ≡ m.plus (m.plus n ss) vs' → m.plus (m.plus l (m.plus s' ss')) (m.plus v vs) ≡ m.plus (m.plus h (m.plus s ss)) (m.plus v' vs')
   both h n l s s' v v' ss ss' vs vs' one rest =
-      ap (λ x. m.plus x (m.plus v vs)) (past m l s' ss')
-      ∙ (swap4 m s' (m.plus l ss') v vs
-      ∙ (ap (m.plus (m.plus s' v)) (rest ∙ m.groups n ss vs')
-      ∙ (past m (m.plus s' v) n (m.plus ss vs')
-      ∙ (sym (m.groups n (m.plus s' v) (m.plus ss vs'))
-      ∙ (ap (λ x. m.plus x (m.plus ss vs')) (sym (m.groups n s' v) ∙ one)
-      ∙ (swap4 m (m.plus h s) v' ss vs'
-      ∙ ap (λ x. m.plus x (m.plus v' vs')) (m.groups h s ss)))))))
+      cc (past m l s' ss', swap4 m s' (m.plus l ss') v vs, m.groups n ss vs', past m (m.plus s' v) n (m.plus ss vs'), m.groups n (m.plus s' v) (m.plus ss vs'), m.groups n s' v, swap4 m (m.plus h s) v' ss vs', m.groups h s ss)
 
   module _ (places : ℕ) (admission : ℕ → ℕ → Q → Admission) (p t : ℕ) where
     -- one request, by its status and by the cause that its move has

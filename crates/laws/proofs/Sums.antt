@@ -1,7 +1,8 @@
 -- Sums in the set of a quantity: rearranged, element by element, and over providers.
 use Rattle.std.proofs.Common.{◌≡◌, ℕ, zero, suc, ◌+◌, ◌<◌, ◌≤◌, Bool, cond, ◌&&◌, eqb, List, [], ◌∷◌, ◌++◌, length, set, Some, sym, refl, ap, ◌∙◌, ⊎_elim, arith}
-use Rattle.std.proofs.lemmas.Bool.{cases_eq, eq-eqb, ne_eqb}
+use Rattle.std.proofs.lemmas.Bool.{cases_eq}
 use Rattle.std.specs.List.{slice_get}
+use Rattle.std.proofs.lemmas.Bool.Decides.{nat_tests}
 use Rattle.quantity.specs.Measure.{Measure}
 use Rattle.laws.proofs.Parts.{some_same, none_some}
 use Rattle.laws.specs.Sums.{sum_from, sum_below}
@@ -12,14 +13,14 @@ module _ {Q R : Type 0} (m : Measure Q R) where
 
   -- a + (b + c) = b + (a + c)
   pub past : (a b c : m.Amount) → m.plus a (m.plus b c) ≡ m.plus b (m.plus a c)
-  past a b c = sym (m.groups a b c) ∙ (ap (λ x. m.plus x c) (m.commutes a b) ∙ m.groups b a c)
+  past a b c = cc (m.groups a b c, m.commutes a b, m.groups b a c)
 
   -- (a + b) + (c + d) = (a + c) + (b + d)
   pub swap4 : (a b c d : m.Amount) → m.plus (m.plus a b) (m.plus c d) ≡ m.plus (m.plus a c) (m.plus b d)
-  swap4 a b c d = m.groups a b (m.plus c d) ∙ (ap (m.plus a) (past b c d) ∙ sym (m.groups a c (m.plus b d)))
+  swap4 a b c d = cc (m.groups a b (m.plus c d), past b c d, m.groups a c (m.plus b d))
 
   pub cancels_right : (a b c : m.Amount) → m.plus a c ≡ m.plus b c → a ≡ b
-  cancels_right a b c e = m.cancels c a b (m.commutes c a ∙ (e ∙ m.commutes b c))
+  cancels_right a b c e = m.cancels c a b (cc (m.commutes c a, m.commutes b c))
 
   -- sums over a list, place by place
   module _ {E : Type 0} (f g : ℕ → E → m.Amount) where
@@ -61,17 +62,17 @@ module _ {Q R : Type 0} (m : Measure Q R) where
   pub below_none : (n : ℕ) → sum_below m (λ k. m.none) n ≡ m.none
   unfolding sum_below
   below_none zero = refl
-  below_none (suc n) = m.neutral (sum_below m (λ k. m.none) n) ∙ below_none n
+  below_none (suc n) = cc (m.neutral (sum_below m (λ k. m.none) n), below_none n)
 
   -- what one provider p has, and the others do not
   abbrev pub only : ℕ → Bool → m.Amount → ℕ → m.Amount
   only p b a k = cond (eqb k p && b) a m.none
 
   only_here : (p : ℕ) (b : Bool) (a : m.Amount) (k : ℕ) → k ≡ p → only p b a k ≡ cond b a m.none
-  only_here p b a k e = ap (λ t. cond (t && b) a m.none) (eq-eqb k p e)
+  only_here p b a k e = grind (arith, nat_tests)
 
   only_else : (p : ℕ) (b : Bool) (a : m.Amount) (k : ℕ) → (k ≡ p → ⊥) → only p b a k ≡ m.none
-  only_else p b a k e = ap (λ t. cond (t && b) a m.none) (ne_eqb k p e)
+  only_else p b a k e = grind (arith, nat_tests)
 
   pub below_one : (p : ℕ) (b : Bool) (a : m.Amount) (n : ℕ) → p < n → sum_below m (only p b a) n ≡ cond b a m.none
   unfolding sum_below
