@@ -56,10 +56,7 @@ module _ {Q R : Type 0} (m : Measure Q R) (held : Grid Q) (places : ℕ) (admiss
       (awards : ℕ → ℕ → m.Amount) (words : Words Q) (rs : List (Request R)) → day_length quarters ≡ true → refused ≡ None →
       Volume m awards words (amounts m held) rs → Volume m (λ p t. m.plus (given p t) (awards p t)) words held_then rs
   award_volume awards words rs l e volume p t hp ht =
-      ap (λ x. m.plus x (passed_out m words rs p t)) (award_adds l e p t)
-      ∙ (m.groups (given p t) (amounts m held p t) (passed_out m words rs p t)
-      ∙ (ap (m.plus (given p t)) (volume p t hp ht)
-      ∙ sym (m.groups (given p t) (awards p t) (passed_in m words rs p t))))
+      cc (award_adds l e p t, m.groups (given p t) (amounts m held p t) (passed_out m words rs p t), volume p t hp ht, m.groups (given p t) (awards p t) (passed_in m words rs p t))
 
   pub award_earnings :
       (earns : ℕ → ℕ) → refused ≡ None → Earnings m earns sheet →

@@ -1,5 +1,5 @@
 -- What a gate passes on is what it confirms: the volumes stay in balance, request by request.
-use Rattle.std.proofs.Common.{◌≡◌, ℕ, zero, suc, ◌+◌, true, cond, List, [], ◌∷◌, Some, None, Option, sym, refl, ap, ◌∙◌, arith}
+use Rattle.std.proofs.Common.{◌≡◌, ℕ, zero, suc, ◌+◌, true, cond, List, [], ◌∷◌, Some, None, Option, refl, ap, ◌∙◌, arith}
 use Rattle.std.specs.List.{slice_get}
 use Rattle.std.proofs.lemmas.Grind.{common_steps}
 use Rattle.quantity.specs.Measure.{Measure}
@@ -61,13 +61,7 @@ module _ {Q R : Type 0} (m : Measure Q R) where
         let passes : m.plus gone new ≡ m.plus come (amounts m held p t) =
         ap (λ (x : Grid m.Amount). m.plus gone (x p t)) (moved_amounts m held r.passage.giver r.passage.taker (passing m r.giving) r.passage.first (r.passage.last + 1))
         ∙ move_passes m held places admission r.passage.giver r.passage.taker r.passage.first r.passage.last (passing m r.giving) e p t in
-        neutral_right m (m.plus new out)
-        ∙ (m.commutes new out
-        ∙ (ap (λ x. m.plus x new) (f refl)
-        ∙ (passes
-        ∙ (ap (λ x. m.plus x (amounts m held p t)) (sym (g refl))
-        ∙ (m.commutes into (amounts m held p t)
-        ∙ ap (λ x. m.plus x into) (sym (neutral_right m (amounts m held p t))))))))
+        cc (neutral_right m (m.plus new out), m.commutes new out, f refl, passes, g refl, m.commutes into (amounts m held p t), neutral_right m (amounts m held p t))
     step gate held r out into BalanceOk (Some c) e f g = refl
     step First held r out into WaitingForCounterpart why e f g = refl
     step Second held r out into WaitingForCounterpart why e f g = refl
@@ -104,11 +98,7 @@ module _ {Q R : Type 0} (m : Measure Q R) where
     gate_volume awards words held rs founded volume p t hp ht =
         let new = gated m places admission gate held rs in
         cancels_right m (m.plus (amounts m (after_moves m places admission held rs) p t) (passed_out m words new p t)) (m.plus (awards p t) (passed_in m words new p t)) (passed_in m words rs p t)
-        (gate_sums places admission p t gate words 0 held rs (founded_from m words rs founded)
-        ∙ (ap (λ x. m.plus x (passed_in m words new p t)) (volume p t hp ht)
-        ∙ (m.groups (awards p t) (passed_in m words rs p t) (passed_in m words new p t)
-        ∙ (ap (m.plus (awards p t)) (m.commutes (passed_in m words rs p t) (passed_in m words new p t))
-        ∙ sym (m.groups (awards p t) (passed_in m words new p t) (passed_in m words rs p t))))))
+        (cc (gate_sums places admission p t gate words 0 held rs (founded_from m words rs founded), volume p t hp ht, m.groups (awards p t) (passed_in m words rs p t) (passed_in m words new p t), m.commutes (passed_in m words rs p t) (passed_in m words new p t), m.groups (awards p t) (passed_in m words new p t) (passed_in m words rs p t)))
 
     -- every request is still as it was announced last
     pub gate_founded : (words : Words Q) (held : Grid Q) (rs : List (Request R)) → AllFounded m words rs → AllFounded m words (gated m places admission gate held rs)
