@@ -2,7 +2,7 @@
 use Rattle.std.specs.Prelude.{◌≡◌, ℕ, ◌+◌, Bool, true, false, cond, List, [], ◌∷◌, take, Some, None, Option}
 use Rattle.std.specs.List.{slice_get}
 use Rattle.quantity.specs.Measure.{Measure}
-use Rattle.book.specs.Grid.{Grid}
+use Rattle.book.specs.Grid.{Grid, amounts}
 use Rattle.book.specs.Admissions.{Admission}
 use Rattle.refusals.specs.declared.refusal.Refusal.{Refusal}
 use Rattle.refusals.specs.First.{unless_refused}
@@ -12,6 +12,10 @@ use Rattle.requests.specs.declared.request.Status.TheVariants.{WaitingForCounter
 use Rattle.requests.specs.declared.request.Request.{Request}
 use Rattle.gates.specs.declared.gate.Gate.{Gate}
 use Rattle.gates.specs.declared.gate.Gate.TheVariants.{First, Second}
+
+-- a fact of all holdings of the same amounts
+abbrev pub AlikeOver : {Q R : Type 0} → Measure Q R → Grid Q → (Grid Q → Type 0) → Type 0
+AlikeOver {Q = Q} m held Fact = (other : Grid Q) → amounts m other ≡ amounts m held → Fact other
 
 -- the quantity that passes: what the giver announced last
 abbrev pub passing : {Q R : Type 0} → Measure Q R → Option R → Q

@@ -1,9 +1,9 @@
 ghost use Rattle.std.specs.Prelude.{◌≡◌};
 ghost use Rattle.std.specs.List.{slice_get};
 ghost use Rattle.std.specs.Result.{result_err};
-ghost use Rattle.book.specs.Grid.{Grid, amounts};
+ghost use Rattle.book.specs.Grid.{amounts};
 ghost use Rattle.requests.specs.Announcing.{changed_at};
-ghost use Rattle.gates.specs.Gates.{passing, outcome, closed, cause, moved_on, settled, passed_on, passed_at, after_moves, gated, Judged};
+ghost use Rattle.gates.specs.Gates.{AlikeOver, passing, outcome, closed, cause, moved_on, settled, passed_on, passed_at, after_moves, gated, Judged};
 
 use crate::gate::Gate;
 use book::interface::Book;
@@ -49,8 +49,8 @@ fn status_of_move(made: Result<(), Refusal>) -> Status
 // Makes the move of a balanced request, and tells how it stands then.
 // Its answer is that of all holdings of the same amounts.
 fn make_move<O: Book>(obligations: &mut O, request: Request<<O::Q as Quantity>::Row>) -> Status
-    ensures status { (other : Grid O.Q) → amounts O.Q.Quantity.measure other ≡ amounts O.Q.Quantity.measure (O.Book.holdings obligations.old) → result ≡ outcome (cause O.Q.Quantity.measure (O.Book.places obligations.old) (O.Book.admission obligations.old) other request) }
-    ensures after { (other : Grid O.Q) → amounts O.Q.Quantity.measure other ≡ amounts O.Q.Quantity.measure (O.Book.holdings obligations.old) → amounts O.Q.Quantity.measure (O.Book.holdings obligations.new) ≡ amounts O.Q.Quantity.measure (moved_on O.Q.Quantity.measure (O.Book.places obligations.old) (O.Book.admission obligations.old) other request) }
+    ensures status { AlikeOver O.Q.Quantity.measure (O.Book.holdings obligations.old) (λ other. result ≡ outcome (cause O.Q.Quantity.measure (O.Book.places obligations.old) (O.Book.admission obligations.old) other request)) }
+    ensures after { AlikeOver O.Q.Quantity.measure (O.Book.holdings obligations.old) (λ other. amounts O.Q.Quantity.measure (O.Book.holdings obligations.new) ≡ amounts O.Q.Quantity.measure (moved_on O.Q.Quantity.measure (O.Book.places obligations.old) (O.Book.admission obligations.old) other request)) }
     ensures places { O.Book.places obligations.new ≡ O.Book.places obligations.old }
     ensures admission { O.Book.admission obligations.new ≡ O.Book.admission obligations.old }
     ensures layer { O.Book.layer_number obligations.new ≡ O.Book.layer_number obligations.old }
@@ -72,8 +72,8 @@ fn settle_request<O: Book>(
     gate: Gate,
     request: Request<<O::Q as Quantity>::Row>,
 ) -> Request<<O::Q as Quantity>::Row>
-    ensures request { (other : Grid O.Q) → amounts O.Q.Quantity.measure other ≡ amounts O.Q.Quantity.measure (O.Book.holdings obligations.old) → result ≡ settled O.Q.Quantity.measure (O.Book.places obligations.old) (O.Book.admission obligations.old) gate other request }
-    ensures after { (other : Grid O.Q) → amounts O.Q.Quantity.measure other ≡ amounts O.Q.Quantity.measure (O.Book.holdings obligations.old) → amounts O.Q.Quantity.measure (O.Book.holdings obligations.new) ≡ amounts O.Q.Quantity.measure (passed_on O.Q.Quantity.measure (O.Book.places obligations.old) (O.Book.admission obligations.old) other request) }
+    ensures request { AlikeOver O.Q.Quantity.measure (O.Book.holdings obligations.old) (λ other. result ≡ settled O.Q.Quantity.measure (O.Book.places obligations.old) (O.Book.admission obligations.old) gate other request) }
+    ensures after { AlikeOver O.Q.Quantity.measure (O.Book.holdings obligations.old) (λ other. amounts O.Q.Quantity.measure (O.Book.holdings obligations.new) ≡ amounts O.Q.Quantity.measure (passed_on O.Q.Quantity.measure (O.Book.places obligations.old) (O.Book.admission obligations.old) other request)) }
     ensures places { O.Book.places obligations.new ≡ O.Book.places obligations.old }
     ensures admission { O.Book.admission obligations.new ≡ O.Book.admission obligations.old }
     ensures layer { O.Book.layer_number obligations.new ≡ O.Book.layer_number obligations.old }
@@ -92,8 +92,8 @@ fn settle_at<O: Book, L: Records<Record = Request<<O::Q as Quantity>::Row>>>(
     gate: Gate,
     place: usize,
 )
-    ensures requests { (other : Grid O.Q) → amounts O.Q.Quantity.measure other ≡ amounts O.Q.Quantity.measure (O.Book.holdings obligations.old) → (L.Records.contents requests.new) ≡ changed_at (settled O.Q.Quantity.measure (O.Book.places obligations.old) (O.Book.admission obligations.old) gate other) (L.Records.contents requests.old) place }
-    ensures after { (other : Grid O.Q) → amounts O.Q.Quantity.measure other ≡ amounts O.Q.Quantity.measure (O.Book.holdings obligations.old) → amounts O.Q.Quantity.measure (O.Book.holdings obligations.new) ≡ amounts O.Q.Quantity.measure (passed_at O.Q.Quantity.measure (O.Book.places obligations.old) (O.Book.admission obligations.old) other (slice_get (L.Records.contents requests.old) place)) }
+    ensures requests { AlikeOver O.Q.Quantity.measure (O.Book.holdings obligations.old) (λ other. (L.Records.contents requests.new) ≡ changed_at (settled O.Q.Quantity.measure (O.Book.places obligations.old) (O.Book.admission obligations.old) gate other) (L.Records.contents requests.old) place) }
+    ensures after { AlikeOver O.Q.Quantity.measure (O.Book.holdings obligations.old) (λ other. amounts O.Q.Quantity.measure (O.Book.holdings obligations.new) ≡ amounts O.Q.Quantity.measure (passed_at O.Q.Quantity.measure (O.Book.places obligations.old) (O.Book.admission obligations.old) other (slice_get (L.Records.contents requests.old) place))) }
     ensures places { O.Book.places obligations.new ≡ O.Book.places obligations.old }
     ensures admission { O.Book.admission obligations.new ≡ O.Book.admission obligations.old }
     ensures layer { O.Book.layer_number obligations.new ≡ O.Book.layer_number obligations.old }

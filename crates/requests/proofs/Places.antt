@@ -1,11 +1,11 @@
 -- The first place of which a test holds, and passages that are the same.
-use Rattle.std.proofs.Common.{◌≡◌, ℕ, ◌<◌, ◌≤◌, Bool, true, false, cond, ◌&&◌, eqb, List, [], ◌∷◌, length, get_or, Some, None, Option, sym, refl, ap, ◌∙◌, subst, arith}
+use Rattle.std.proofs.Common.{◌≡◌, ℕ, ◌<◌, ◌≤◌, Bool, true, false, List, [], ◌∷◌, length, get_or, Some, None, Option, refl, subst, arith}
 use Rattle.std.specs.List.{slice_get, position, position_or_len}
 use Rattle.std.specs.Option.{MatchOption}
 use Rattle.std.proofs.lemmas.List.Quantifiers.{position-Some}
 use Rattle.std.proofs.lemmas.List.Sums.{position_or_len_is}
 use Rattle.std.proofs.lemmas.Option.{slice_get-get_or}
-use Rattle.std.proofs.lemmas.Bool.{le-ltb, lt-ltb, and_parts, eqb-true}
+use Rattle.std.proofs.lemmas.Bool.Decides.{nat_tests}
 use Rattle.requests.specs.declared.request.Passage.{Passage}
 use Rattle.requests.specs.Requests.{holds_of, same_passage}
 
@@ -22,26 +22,18 @@ module _ {E : Type 0} (test : E → Bool) where
   first_is [] n e (Some i) w = absurd (omega (arith, w.1))
   first_is (x ∷ xs) n e None w =
       let at : position_or_len test (x ∷ xs) ≡ length (x ∷ xs) = position_or_len_is test (x ∷ xs) (length (x ∷ xs)) x (omega arith) (λ k h. at_place (x ∷ xs) x k false h (w k (omega arith) (omega arith))) (λ h. absurd (omega arith)) in
-      sym (ap (λ b. cond b (Some (position_or_len test (x ∷ xs))) None) (le-ltb (position_or_len test (x ∷ xs)) (length (x ∷ xs)) (omega arith)))
+      grind (arith, nat_tests)
   first_is (x ∷ xs) n e (Some i) w =
       let at : position_or_len test (x ∷ xs) ≡ i = position_or_len_is test (x ∷ xs) i x (omega (arith, w.1)) (λ k h. at_place (x ∷ xs) x k false (omega (arith, w.1)) (w.3 k (omega arith) h)) (λ h. at_place (x ∷ xs) x i true h w.2) in
-      sym (ap (λ b. cond b (Some (position_or_len test (x ∷ xs))) None) (lt-ltb (position_or_len test (x ∷ xs)) (length (x ∷ xs)) (omega (arith, w.1))) ∙ ap (λ k. Some k) at)
+      grind (arith, nat_tests)
 
   -- at the first place of which the test holds there is an element of which it holds
   pub place_holds : (xs : List E) (k : ℕ) → position test xs ≡ Some k → (x : E) × (slice_get xs k ≡ Some x) × (test x ≡ true)
-  place_holds [] k e = absurd (let z : ◌≡◌ {A = ℕ} 0 1 = cc in omega arith)
+  place_holds [] k e = grind arith
   place_holds (x ∷ xs) k e =
       let w = position-Some test (x ∷ xs) k x e in
       (get_or (x ∷ xs) k x, slice_get-get_or (x ∷ xs) k x w.0, w.1)
 
 -- passages whose test holds are one
 pub passages_equal : (p q : Passage) → same_passage p q ≡ true → p ≡ q
-passages_equal p q e =
-    let giver = and_parts (eqb p.giver q.giver) (eqb p.taker q.taker && (eqb p.first q.first && eqb p.last q.last)) e in
-    let taker = and_parts (eqb p.taker q.taker) (eqb p.first q.first && eqb p.last q.last) giver.1 in
-    let span = and_parts (eqb p.first q.first) (eqb p.last q.last) taker.1 in
-    let f = eqb-true p.giver q.giver giver.0 in
-    let g = eqb-true p.taker q.taker taker.0 in
-    let h = eqb-true p.first q.first span.0 in
-    let l = eqb-true p.last q.last span.1 in
-    λ i. record { giver = f i; taker = g i; first = h i; last = l i }
+passages_equal p q e = grind (arith, nat_tests)

@@ -46,6 +46,7 @@ fn add_request<R: Copy, L: Records<Record = Request<R>>>(
 
 /// Makes an announcement: it joins a request of its passage, or becomes a new one where every unresolved
 /// request may be joined.
+#[tactic(auto, unfolding(crate::specs::Announcing::announcement_refusal, crate::specs::Announcing::announcement_place, crate::specs::Announcing::announcement_list))]
 pub fn put_announcement<Q: Quantity, L: Records<Record = Request<Q::Row>>>(
     list: &mut L,
     joining: Joining,

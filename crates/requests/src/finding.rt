@@ -6,7 +6,7 @@ use crate::request::{Passage, Request, Status};
 use record_list::interface::Records;
 
 /// Which requests an announcement may join.
-#[derive(Clone, Copy)]
+#[derive(Clone, Copy, PartialEq, Eq, Debug)]
 pub enum Joining {
     /// Every unresolved one.
     Unresolved,
@@ -18,14 +18,11 @@ pub enum Joining {
 pub fn may_join(joining: Joining, status: Status) -> bool
     ensures { result ≡ joins joining status }
 {
-    match status {
-        Status::WaitingForCounterpart | Status::BalanceError => true,
-        Status::BalanceOk => match joining {
-            Joining::Unresolved => true,
-            Joining::NotBalanced => false,
-        },
-        _ => false,
-    }
+    matches!(
+        (joining, status),
+        (_, Status::WaitingForCounterpart | Status::BalanceError)
+            | (Joining::Unresolved, Status::BalanceOk)
+    )
 }
 
 // Whether the request at a place is of this passage and may be joined.
