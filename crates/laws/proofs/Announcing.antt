@@ -1,17 +1,20 @@
 -- What a taken announcement makes of the last words and of the requests: one request is heard, and no volume passes.
-use Rattle.std.proofs.Common.{◌≡◌, ℕ, zero, suc, ◌<◌, Bool, true, false, cond, not, eqb, ltb, List, [], ◌∷◌, ◌++◌, length, drop, set, Some, None, Option, unwrap_or, sym, refl, ap, ◌∙◌, subst, ⊎_elim, zero-add}
-use Rattle.std.proofs.lemmas.Bool.{false≢true, not-false, cases_eq, eq-eqb, ne_eqb, ltb-true, and_parts}
+use Rattle.std.proofs.Common.{◌≡◌, ℕ, ◌<◌, Bool, true, false, cond, eqb, List, [], ◌∷◌, ◌++◌, length, drop, set, Some, None, Option, unwrap_or, sym, refl, ap, ◌∙◌, subst, ⊎_elim, zero-add, arith}
+use Rattle.std.proofs.lemmas.Bool.{false≢true, cases_eq, eq-eqb, ne_eqb, and_parts}
+use Rattle.std.proofs.lemmas.Grind.{common_steps}
+use Rattle.std.proofs.lemmas.Option.{gets}
 use Rattle.std.specs.List.{slice_get, position}
+use Rattle.std.proofs.lemmas.Bool.Decides.{nat_tests}
 use Rattle.quantity.specs.Measure.{Measure}
 use Rattle.book.specs.Grid.{Grid}
 use Rattle.refusals.specs.declared.refusal.Refusal.{Refusal}
-use Rattle.refusals.specs.declared.refusal.Refusal.TheVariants.{NoSuchProvider, NoRequestToChange, NoPlaceInList}
+use Rattle.refusals.specs.declared.refusal.Refusal.TheVariants.{NoRequestToChange, NoPlaceInList}
 use Rattle.refusals.specs.First.{unless_refused}
-use Rattle.refusals.proofs.Firsts.{alone, front_passes}
+use Rattle.refusals.proofs.Firsts.{alone, none_both, front_passes}
 use Rattle.requests.specs.declared.request.Side.{Side}
 use Rattle.requests.specs.declared.request.Side.TheVariants.{Giver, Taker}
 use Rattle.requests.specs.declared.request.Status.{Status}
-use Rattle.requests.specs.declared.request.Status.TheVariants.{WaitingForCounterpart, BalanceOk, BalanceError, Confirmed, Rejected, Waiting, Accepted, Declined, Lapsed}
+use Rattle.requests.specs.declared.request.Status.TheVariants.{BalanceOk, BalanceError}
 use Rattle.requests.specs.declared.request.Request.{Request}
 use Rattle.requests.specs.declared.finding.Joining.{Joining}
 use Rattle.requests.specs.declared.finding.Joining.TheVariants.{Unresolved, NotBalanced}
@@ -25,50 +28,30 @@ use Rattle.day.specs.Announcing.{no_provider, outline, outline_refusal, announce
 use Rattle.laws.specs.Sums.{sum_from}
 use Rattle.laws.specs.Volumes.{is_confirmed, from_giver, to_taker}
 use Rattle.laws.specs.Laws.{agreed, Matches}
-use Rattle.laws.proofs.Parts.{none_some, when_none, fronts_none, two_pass}
+use Rattle.laws.proofs.Parts.{none_some, fronts_none}
 use Rattle.laws.proofs.Sums.{sum_changed, sum_added}
 use Rattle.laws.proofs.Stands.{Words, Volume, AllFounded}
 
 -- the elements of a list with one element replaced, or with one more
 nth_set_here : {E : Type 0} (xs : List E) (i : ℕ) (x y : E) → slice_get xs i ≡ Some x → slice_get (set xs i y) i ≡ Some y
-nth_set_here [] i x y e = absurd (none_some x e)
-nth_set_here (z ∷ zs) zero x y e = refl
-nth_set_here (z ∷ zs) (suc i) x y e = nth_set_here zs i x y e
+nth_set_here xs i x y e = grind (arith, common_steps, gets)
 
 nth_set_else : {E : Type 0} (xs : List E) (i j : ℕ) (y : E) → (j ≡ i → ⊥) → slice_get (set xs i y) j ≡ slice_get xs j
-nth_set_else [] i j y n = refl
-nth_set_else (z ∷ zs) zero zero y n = absurd (n refl)
-nth_set_else (z ∷ zs) zero (suc j) y n = refl
-nth_set_else (z ∷ zs) (suc i) zero y n = refl
-nth_set_else (z ∷ zs) (suc i) (suc j) y n = nth_set_else zs i j y (λ e. n (ap suc e))
+nth_set_else xs i j y n = grind (arith, common_steps, gets)
 
 nth_more_here : {E : Type 0} (xs : List E) (y : E) → slice_get (xs ++ (y ∷ [])) (length xs) ≡ Some y
-nth_more_here [] y = refl
-nth_more_here (x ∷ xs) y = nth_more_here xs y
+nth_more_here xs y = grind (arith, common_steps, gets)
 
 nth_more_else : {E : Type 0} (xs : List E) (j : ℕ) (y : E) → (j ≡ length xs → ⊥) → slice_get (xs ++ (y ∷ [])) j ≡ slice_get xs j
-nth_more_else [] zero y n = absurd (n refl)
-nth_more_else [] (suc j) y n = refl
-nth_more_else (x ∷ xs) zero y n = refl
-nth_more_else (x ∷ xs) (suc j) y n = nth_more_else xs j y (λ e. n (ap suc e))
+nth_more_else xs j y n = grind (arith, common_steps, gets)
 
 -- a request that may be joined has not passed anything on
 joins_open : (j : Joining) (status : Status) → joins j status ≡ true → is_confirmed status ≡ false
-joins_open j WaitingForCounterpart e = refl
-joins_open Unresolved BalanceOk e = refl
-joins_open NotBalanced BalanceOk e = refl
-joins_open j BalanceError e = refl
-joins_open j Confirmed e = sym e
-joins_open j (Rejected c) e = refl
-joins_open j Waiting e = refl
-joins_open j Accepted e = refl
-joins_open j Declined e = refl
-joins_open j Lapsed e = refl
+joins_open j status e = grind (arith, common_steps)
 
 -- where there is no request to join or to make, the list stays
 no_place : {E : Type 0} (b : Bool) (xs ys : List E) (r : Refusal) → cond b None (Some NoPlaceInList) ≡ Some r → cond b ys xs ≡ xs
-no_place true xs ys r e = absurd (none_some r e)
-no_place false xs ys r e = refl
+no_place b xs ys r e = grind (arith, nat_tests)
 
 list_stays : {E : Type 0} (joining : Joining) (xs : List E) (room : ℕ) (change : E → E) (y : E) (o : Option ℕ) (r : Refusal) → refusal_of joining xs room o ≡ Some r → list_of joining xs room change y o ≡ xs
 list_stays joining xs room change y (Some k) r e = absurd (none_some r e)
@@ -77,8 +60,7 @@ list_stays NotBalanced xs room change y None r e = refl
 
 module _ {Q R : Type 0} (m : Measure Q R) where
   balance_if : (b : Bool) → is_confirmed (cond b BalanceOk BalanceError) ≡ false
-  balance_if true = refl
-  balance_if false = refl
+  balance_if b = grind (arith, nat_tests)
 
   balance_open : (giving taking : Option R) → is_confirmed (balance m giving taking) ≡ false
   balance_open None taking = refl
@@ -91,8 +73,7 @@ module _ {Q R : Type 0} (m : Measure Q R) where
 
   -- where both sides agree, the giver announced the amount that was announced last
   agreed_if : (b : Bool) → agreed (cond b BalanceOk BalanceError) ≡ true → b ≡ true
-  agreed_if true e = refl
-  agreed_if false e = e
+  agreed_if b e = grind (arith, nat_tests)
 
   taker_says : (giving : Option R) (q : Q) → agreed (balance m giving (Some (m.row q))) ≡ true → m.amount q ≡ m.amount (passing m giving)
   taker_says None q e = absurd (false≢true e)
@@ -201,17 +182,18 @@ module _ {Q R : Type 0} (m : Measure Q R) where
       goes_by NotBalanced None e f says = absurd (none_some NoRequestToChange (sym f))
 
     provider_there : (p : ℕ) → no_provider p ≡ None → p < 32
-    provider_there p e = ltb-true p 32 (not-false (ltb p 32) (when_none (not (ltb p 32)) NoSuchProvider e))
+    provider_there p e = grind (arith, nat_tests)
 
     pub goes : announce_refusal m day joining a xs room ≡ None → Says (announcement_place joining xs a.passage) → AllFounded m words xs → Goes (announced_list m day joining a xs room)
     unfolding announce_refusal announced_list announcement_refusal announcement_place announcement_list
     goes e says founded =
         let last = refusal_of joining xs room (position test xs) in
         let parts = fronts_none (outline m day joining a) (last ∷ []) e in
-        let there = two_pass (no_provider a.passage.giver) (no_provider a.passage.taker) (drop 2 (outline m day joining a)) parts.0 in
+        let giver = none_both (no_provider a.passage.giver) (drop 1 (outline m day joining a)) parts.0 in
+        let taker = none_both (no_provider a.passage.taker) (drop 2 (outline m day joining a)) giver.1 in
         let list = list_of joining xs room change (change fresh) (position test xs) in
         subst Goes (sym (ap (λ o. unless_refused o list xs) parts.0))
-        (goes_by (provider_there a.passage.giver there.0) (provider_there a.passage.taker there.1) founded joining (position test xs) refl (sym (alone last) ∙ parts.1) says)
+        (goes_by (provider_there a.passage.giver giver.0) (provider_there a.passage.taker taker.0) founded joining (position test xs) refl (sym (alone last) ∙ parts.1) says)
 
     -- a refused one leaves the list
     pub stays : (r : Refusal) → announce_refusal m day joining a xs room ≡ Some r → announced_list m day joining a xs room ≡ xs

@@ -1,10 +1,9 @@
 -- What the numbers of an answer tell: whether an award was taken, and at which place an announcement was.
-use Rattle.std.proofs.Common.{◌≡◌, ℕ, Bool, false, ◌&&◌, eqb, List, get_or, Some, None, Option, Ok, Err, sym, refl, ap, ◌∙◌}
+use Rattle.std.proofs.Common.{◌≡◌, ℕ, Bool, false, ◌&&◌, eqb, List, get_or, Some, None, Option, ap, ◌∙◌, arith}
+use Rattle.std.proofs.lemmas.Bool.Decides.{nat_tests}
+use Rattle.std.proofs.lemmas.Grind.{common_steps}
 use Rattle.refusals.specs.declared.refusal.Refusal.{Refusal}
-use Rattle.refusals.specs.declared.refusal.Refusal.TheVariants.{NoSuchDayLength, NoSuchDayNumber, NotEmpty, NoSuchProvider, NoSuchSpan, SameProvider, ZeroQuantity, WrongPriceCount, PriceTooLarge, MinuteBeforeLast, TooLate, TooEarly, TooManyAwards, NoRequestToChange, NoPlaceInList, NoRemainder, SumDoesNotFit, NotAdmitted, NoFreePlace}
 use Rattle.refusals.specs.Numbers.{number, refusal_number}
-use Rattle.day_calls.specs.declared.calls.Answer.TheVariants.{Opened, Awarded, Placed, GatePassed, Held, Lacking, Standing}
-use Rattle.day_calls.specs.declared.calls.NotDone.TheVariants.{Refused, NotCalled as NotMade}
 use Rattle.day_calls.specs.Answers.{Said, Outcome, said, unless}
 use Rattle.laws.specs.Volumes.{is_awarded, is_placed}
 
@@ -16,25 +15,7 @@ tells_placed k ns = eqb (get_or ns 0 1) 0 && (eqb (get_or ns 1 0) 3 && eqb (get_
 
 -- a refusal is not 0
 not_taken : (r : Refusal) → eqb (number r) 0 ≡ false
-not_taken NoSuchDayLength = refl
-not_taken NoSuchDayNumber = refl
-not_taken NotEmpty = refl
-not_taken NoSuchProvider = refl
-not_taken NoSuchSpan = refl
-not_taken SameProvider = refl
-not_taken ZeroQuantity = refl
-not_taken WrongPriceCount = refl
-not_taken PriceTooLarge = refl
-not_taken MinuteBeforeLast = refl
-not_taken TooLate = refl
-not_taken TooEarly = refl
-not_taken TooManyAwards = refl
-not_taken NoRequestToChange = refl
-not_taken NoPlaceInList = refl
-not_taken (NoRemainder p t) = refl
-not_taken (SumDoesNotFit p t) = refl
-not_taken (NotAdmitted p t cause) = refl
-not_taken NoFreePlace = refl
+not_taken r = grind (arith, nat_tests)
 
 refused_award : (r : Refusal) → tells_awarded (refusal_number r) ≡ false
 refused_award r = ap (λ b. b && eqb (get_or (refusal_number r) 1 0) 2) (not_taken r)
@@ -44,26 +25,10 @@ refused_place k r = ap (λ b. b && (eqb (get_or (refusal_number r) 1 0) 3 && eqb
 
 module _ {Q : Type 0} where
   awarded_told : (r : Outcome Q) → is_awarded r ≡ tells_awarded (said r).numbers
-  awarded_told (Ok Opened) = refl
-  awarded_told (Ok Awarded) = refl
-  awarded_told (Ok (Placed place)) = refl
-  awarded_told (Ok GatePassed) = refl
-  awarded_told (Ok (Held q)) = refl
-  awarded_told (Ok (Lacking x)) = refl
-  awarded_told (Ok (Standing status)) = refl
-  awarded_told (Err (Refused refusal)) = sym (refused_award refusal)
-  awarded_told (Err (NotMade why)) = refl
+  awarded_told r = grind (arith, nat_tests, common_steps)
 
   placed_told : (k : ℕ) (r : Outcome Q) → is_placed k r ≡ tells_placed k (said r).numbers
-  placed_told k (Ok Opened) = refl
-  placed_told k (Ok Awarded) = refl
-  placed_told k (Ok (Placed place)) = refl
-  placed_told k (Ok GatePassed) = refl
-  placed_told k (Ok (Held q)) = refl
-  placed_told k (Ok (Lacking x)) = refl
-  placed_told k (Ok (Standing status)) = refl
-  placed_told k (Err (Refused refusal)) = sym (refused_place k refusal)
-  placed_told k (Err (NotMade why)) = refl
+  placed_told k r = grind (arith, nat_tests, common_steps)
 
   -- what holds of the numbers that were defined holds of the answer
   pub awarded_by : (r : Outcome Q) (s : Said Q) (b : Bool) → said r ≡ s → tells_awarded s.numbers ≡ b → is_awarded r ≡ b

@@ -1,6 +1,6 @@
 -- A taken award adds its quantity to the holdings of its block, and its earnings to the sheet.
-use Rattle.std.proofs.Common.{◌≡◌, ℕ, ◌+◌, ◌<◌, Bool, true, false, cond, ◌&&◌, ◌||◌, eqb, ltb, leb, List, [], ◌∷◌, Some, None, Option, sym, ap, ◌∙◌, ⊎_elim, arith}
-use Rattle.std.proofs.lemmas.Bool.{eqb-true, or_cases}
+use Rattle.std.proofs.Common.{◌≡◌, ℕ, ◌+◌, ◌<◌, Bool, true, cond, ◌&&◌, eqb, ltb, leb, List, [], ◌∷◌, Some, None, Option, sym, ap, ◌∙◌, arith}
+use Rattle.std.proofs.lemmas.Bool.Decides.{nat_tests}
 use Rattle.quantity.specs.Measure.{Measure}
 use Rattle.book.specs.Grid.{Grid, amounts}
 use Rattle.book.specs.Admissions.{Admission}
@@ -22,19 +22,10 @@ use Rattle.laws.proofs.Stands.{Words, passed_out, passed_in, Volume, Earnings}
 
 -- every day has more than 80 quarters
 pub long_day : (quarters : ℕ) → day_length quarters ≡ true → 80 < quarters
-long_day quarters e =
-    ⊎_elim
-    (λ (f : eqb quarters 92 ≡ true). omega (arith, eqb-true quarters 92 f))
-    (λ (f : (eqb quarters 96 || eqb quarters 100) ≡ true).
-    ⊎_elim
-    (λ (g : eqb quarters 96 ≡ true). omega (arith, eqb-true quarters 96 g))
-    (λ (g : eqb quarters 100 ≡ true). omega (arith, eqb-true quarters 100 g))
-    (or_cases (eqb quarters 96) (eqb quarters 100) f))
-    (or_cases (eqb quarters 92) (eqb quarters 96 || eqb quarters 100) e)
+long_day quarters e = grind (arith, nat_tests)
 
 earns_by : (b : Bool) (old more earned : ℕ) → old ≡ earned → cond b (old + more) old ≡ cond b more 0 + earned
-earns_by true old more earned e = omega arith
-earns_by false old more earned e = omega arith
+earns_by b old more earned e = grind (arith, nat_tests)
 
 module _ {Q R : Type 0} (m : Measure Q R) (held : Grid Q) (places : ℕ) (admission : ℕ → ℕ → Q → Admission) (tenths : Q → ℕ → ℕ) (directions quarters : ℕ) (sheet : SheetView) (provider block : ℕ) (q : Q) (prices : List ℕ) where
   abbrev refused : Option Refusal
@@ -65,10 +56,7 @@ module _ {Q R : Type 0} (m : Measure Q R) (held : Grid Q) (places : ℕ) (admiss
       (awards : ℕ → ℕ → m.Amount) (words : Words Q) (rs : List (Request R)) → day_length quarters ≡ true → refused ≡ None →
       Volume m awards words (amounts m held) rs → Volume m (λ p t. m.plus (given p t) (awards p t)) words held_then rs
   award_volume awards words rs l e volume p t hp ht =
-      ap (λ x. m.plus x (passed_out m words rs p t)) (award_adds l e p t)
-      ∙ (m.groups (given p t) (amounts m held p t) (passed_out m words rs p t)
-      ∙ (ap (m.plus (given p t)) (volume p t hp ht)
-      ∙ sym (m.groups (given p t) (awards p t) (passed_in m words rs p t))))
+      cc (award_adds l e p t, m.groups (given p t) (amounts m held p t) (passed_out m words rs p t), volume p t hp ht, m.groups (given p t) (awards p t) (passed_in m words rs p t))
 
   pub award_earnings :
       (earns : ℕ → ℕ) → refused ≡ None → Earnings m earns sheet →

@@ -1,6 +1,7 @@
 -- What a gate passes on is what it confirms: the volumes stay in balance, request by request.
-use Rattle.std.proofs.Common.{◌≡◌, ℕ, zero, suc, ◌+◌, true, cond, List, [], ◌∷◌, Some, None, Option, sym, refl, ap, ◌∙◌, arith}
+use Rattle.std.proofs.Common.{◌≡◌, ℕ, zero, suc, ◌+◌, true, cond, List, [], ◌∷◌, Some, None, Option, refl, ap, ◌∙◌, arith}
 use Rattle.std.specs.List.{slice_get}
+use Rattle.std.proofs.lemmas.Grind.{common_steps}
 use Rattle.quantity.specs.Measure.{Measure}
 use Rattle.book.specs.Grid.{Grid, amounts}
 use Rattle.book.specs.Admissions.{Admission}
@@ -23,17 +24,7 @@ use Rattle.laws.proofs.Stands.{Words, out_at, in_at, passed_out, passed_in, Volu
 
 -- a request that agrees after a gate agreed before it
 still_agreed : (gate : Gate) (why : Option Refusal) (status : Status) → agreed (judged gate why status) ≡ true → agreed status ≡ true
-still_agreed First why WaitingForCounterpart e = e
-still_agreed Second why WaitingForCounterpart e = e
-still_agreed gate why BalanceOk e = refl
-still_agreed First why BalanceError e = e
-still_agreed Second why BalanceError e = e
-still_agreed gate why Confirmed e = e
-still_agreed gate why (Rejected x) e = e
-still_agreed gate why Waiting e = e
-still_agreed gate why Accepted e = e
-still_agreed gate why Declined e = e
-still_agreed gate why Lapsed e = e
+still_agreed gate why status e = grind (arith, common_steps)
 
 module _ {Q R : Type 0} (m : Measure Q R) where
   -- the last word says what the request says
@@ -53,14 +44,7 @@ module _ {Q R : Type 0} (m : Measure Q R) where
   -- one request and the rest: h is what is held before, n after the one, l after all
   both : (h n l s s' v v' ss ss' vs vs' : m.Amount) → m.plus (m.plus n s') v ≡ m.plus (m.plus h s) v' → m.plus (m.plus l ss') vs ≡ m.plus (m.plus n ss) vs' → m.plus (m.plus l (m.plus s' ss')) (m.plus v vs) ≡ m.plus (m.plus h (m.plus s ss)) (m.plus v' vs')
   both h n l s s' v v' ss ss' vs vs' one rest =
-      ap (λ x. m.plus x (m.plus v vs)) (past m l s' ss')
-      ∙ (swap4 m s' (m.plus l ss') v vs
-      ∙ (ap (m.plus (m.plus s' v)) (rest ∙ m.groups n ss vs')
-      ∙ (past m (m.plus s' v) n (m.plus ss vs')
-      ∙ (sym (m.groups n (m.plus s' v) (m.plus ss vs'))
-      ∙ (ap (λ x. m.plus x (m.plus ss vs')) (sym (m.groups n s' v) ∙ one)
-      ∙ (swap4 m (m.plus h s) v' ss vs'
-      ∙ ap (λ x. m.plus x (m.plus v' vs')) (m.groups h s ss)))))))
+      cc (past m l s' ss', swap4 m s' (m.plus l ss') v vs, m.groups n ss vs', past m (m.plus s' v) n (m.plus ss vs'), m.groups n (m.plus s' v) (m.plus ss vs'), m.groups n s' v, swap4 m (m.plus h s) v' ss vs', m.groups h s ss)
 
   module _ (places : ℕ) (admission : ℕ → ℕ → Q → Admission) (p t : ℕ) where
     -- one request, by its status and by the cause that its move has
@@ -77,13 +61,7 @@ module _ {Q R : Type 0} (m : Measure Q R) where
         let passes : m.plus gone new ≡ m.plus come (amounts m held p t) =
         ap (λ (x : Grid m.Amount). m.plus gone (x p t)) (moved_amounts m held r.passage.giver r.passage.taker (passing m r.giving) r.passage.first (r.passage.last + 1))
         ∙ move_passes m held places admission r.passage.giver r.passage.taker r.passage.first r.passage.last (passing m r.giving) e p t in
-        neutral_right m (m.plus new out)
-        ∙ (m.commutes new out
-        ∙ (ap (λ x. m.plus x new) (f refl)
-        ∙ (passes
-        ∙ (ap (λ x. m.plus x (amounts m held p t)) (sym (g refl))
-        ∙ (m.commutes into (amounts m held p t)
-        ∙ ap (λ x. m.plus x into) (sym (neutral_right m (amounts m held p t))))))))
+        cc (neutral_right m (m.plus new out), m.commutes new out, f refl, passes, g refl, m.commutes into (amounts m held p t), neutral_right m (amounts m held p t))
     step gate held r out into BalanceOk (Some c) e f g = refl
     step First held r out into WaitingForCounterpart why e f g = refl
     step Second held r out into WaitingForCounterpart why e f g = refl
@@ -120,11 +98,7 @@ module _ {Q R : Type 0} (m : Measure Q R) where
     gate_volume awards words held rs founded volume p t hp ht =
         let new = gated m places admission gate held rs in
         cancels_right m (m.plus (amounts m (after_moves m places admission held rs) p t) (passed_out m words new p t)) (m.plus (awards p t) (passed_in m words new p t)) (passed_in m words rs p t)
-        (gate_sums places admission p t gate words 0 held rs (founded_from m words rs founded)
-        ∙ (ap (λ x. m.plus x (passed_in m words new p t)) (volume p t hp ht)
-        ∙ (m.groups (awards p t) (passed_in m words rs p t) (passed_in m words new p t)
-        ∙ (ap (m.plus (awards p t)) (m.commutes (passed_in m words rs p t) (passed_in m words new p t))
-        ∙ sym (m.groups (awards p t) (passed_in m words new p t) (passed_in m words rs p t))))))
+        (cc (gate_sums places admission p t gate words 0 held rs (founded_from m words rs founded), volume p t hp ht, m.groups (awards p t) (passed_in m words rs p t) (passed_in m words new p t), m.commutes (passed_in m words rs p t) (passed_in m words new p t), m.groups (awards p t) (passed_in m words new p t) (passed_in m words rs p t)))
 
     -- every request is still as it was announced last
     pub gate_founded : (words : Words Q) (held : Grid Q) (rs : List (Request R)) → AllFounded m words rs → AllFounded m words (gated m places admission gate held rs)

@@ -1,31 +1,29 @@
 -- A day that is opened holds nothing, has no request, and nothing was awarded or earned on it.
-use Rattle.std.proofs.Common.{◌≡◌, ℕ, zero, suc, ◌<◌, Bool, true, false, cond, not, ◌&&◌, eqb, leb, List, [], ◌∷◌, length, None, sym, refl, ap, ◌∙◌, subst, ⊎_elim, arith}
+use Rattle.std.proofs.Common.{◌≡◌, ℕ, zero, suc, ◌<◌, Bool, true, cond, not, ◌&&◌, eqb, leb, List, [], ◌∷◌, length, None, sym, ap, ◌∙◌, subst, arith}
 use Rattle.std.proofs.lemmas.List.{nil_from_length}
-use Rattle.std.proofs.lemmas.Bool.{and_parts, eqb-true, not-false, cases_eq}
+use Rattle.std.proofs.lemmas.Bool.{and_parts, eqb-true, not-false}
+use Rattle.std.proofs.lemmas.Bool.Decides.{nat_tests}
 use Rattle.quantity.specs.Measure.{Measure, is_zero}
 use Rattle.book.specs.Grid.{Grid, amounts, total, filled, taken}
 use Rattle.book.proofs.Counts.{taken_is}
 use Rattle.refusals.specs.declared.refusal.Refusal.TheVariants.{NoSuchDayLength, NoSuchDayNumber, NotEmpty}
 use Rattle.refusals.specs.First.{when}
-use Rattle.refusals.proofs.Firsts.{alone, none_both}
+use Rattle.refusals.proofs.Firsts.{alone, none_both, when_none}
 use Rattle.requests.specs.declared.request.Request.{Request}
 use Rattle.day.specs.Opening.{day_length, nothing_held, opening_refusal}
 use Rattle.std.specs.List.{slice_get}
 use Rattle.laws.specs.Laws.{Founded}
 use Rattle.laws.specs.Sums.{sum_from}
-use Rattle.laws.proofs.Parts.{when_none}
 use Rattle.laws.proofs.Stands.{Words, out_at, in_at, passed_out, passed_in, Volume, AllFounded}
 
 -- where a total is 0, each part is
 part_zero : (f : ℕ → ℕ) (n : ℕ) → total f n ≡ 0 → (k : ℕ) → k < n → f k ≡ 0
 unfolding total
 part_zero f zero e k h = absurd (omega arith)
-part_zero f (suc n) e k h =
-    ⊎_elim (λ (q : k ≡ n). let w : f k ≡ f n = ap f q in omega arith) (λ (q : k ≡ n → ⊥). part_zero f n (omega arith) k (let w : k < n = omega arith in w)) (cases_eq k n)
+part_zero f (suc n) e k h = grind (arith, part_zero f n)
 
 not_filled : (b : Bool) → ◌≡◌ {A = ℕ} (cond b 0 1) 0 → b ≡ true
-not_filled true e = refl
-not_filled false e = absurd (omega arith)
+not_filled b e = grind (arith, nat_tests)
 
 module _ {Q R : Type 0} (m : Measure Q R) where
   -- where no holding of the range is taken, each is zero

@@ -1,9 +1,10 @@
 -- Sums in the set of a quantity: rearranged, element by element, and over providers.
-use Rattle.std.proofs.Common.{◌≡◌, ℕ, zero, suc, ◌+◌, ◌<◌, ◌≤◌, Bool, cond, ◌&&◌, eqb, List, [], ◌∷◌, ◌++◌, length, set, Some, sym, refl, ap, ◌∙◌, ⊎_elim, arith}
-use Rattle.std.proofs.lemmas.Bool.{cases_eq, eq-eqb, ne_eqb}
+use Rattle.std.proofs.Common.{◌≡◌, ℕ, zero, suc, ◌+◌, ◌<◌, ◌≤◌, Bool, cond, ◌&&◌, eqb, List, [], ◌∷◌, ◌++◌, length, set, Some, sym, refl, ◌∙◌, ⊎_elim, arith}
+use Rattle.std.proofs.lemmas.Bool.{cases_eq}
 use Rattle.std.specs.List.{slice_get}
+use Rattle.std.proofs.lemmas.Bool.Decides.{nat_tests}
 use Rattle.quantity.specs.Measure.{Measure}
-use Rattle.laws.proofs.Parts.{some_same, none_some}
+use Rattle.laws.proofs.Parts.{none_some}
 use Rattle.laws.specs.Sums.{sum_from, sum_below}
 
 module _ {Q R : Type 0} (m : Measure Q R) where
@@ -12,21 +13,21 @@ module _ {Q R : Type 0} (m : Measure Q R) where
 
   -- a + (b + c) = b + (a + c)
   pub past : (a b c : m.Amount) → m.plus a (m.plus b c) ≡ m.plus b (m.plus a c)
-  past a b c = sym (m.groups a b c) ∙ (ap (λ x. m.plus x c) (m.commutes a b) ∙ m.groups b a c)
+  past a b c = cc (m.groups a b c, m.commutes a b, m.groups b a c)
 
   -- (a + b) + (c + d) = (a + c) + (b + d)
   pub swap4 : (a b c d : m.Amount) → m.plus (m.plus a b) (m.plus c d) ≡ m.plus (m.plus a c) (m.plus b d)
-  swap4 a b c d = m.groups a b (m.plus c d) ∙ (ap (m.plus a) (past b c d) ∙ sym (m.groups a c (m.plus b d)))
+  swap4 a b c d = cc (m.groups a b (m.plus c d), past b c d, m.groups a c (m.plus b d))
 
   pub cancels_right : (a b c : m.Amount) → m.plus a c ≡ m.plus b c → a ≡ b
-  cancels_right a b c e = m.cancels c a b (m.commutes c a ∙ (e ∙ m.commutes b c))
+  cancels_right a b c e = m.cancels c a b (cc (m.commutes c a, m.commutes b c))
 
   -- sums over a list, place by place
   module _ {E : Type 0} (f g : ℕ → E → m.Amount) where
     pub sum_alike : (k : ℕ) (xs : List E) → ((j : ℕ) (z : E) → k ≤ j → g j z ≡ f j z) → sum_from m g k xs ≡ sum_from m f k xs
     unfolding sum_from
     sum_alike k [] e = refl
-    sum_alike k (x ∷ xs) e = ap (λ a. m.plus a (sum_from m g (suc k) xs)) (e k x (omega arith)) ∙ ap (m.plus (f k x)) (sum_alike (suc k) xs (λ j z h. e j z (omega arith)))
+    sum_alike k (x ∷ xs) e = cc (e k x (omega arith), sum_alike (suc k) xs (λ j z h. e j z (omega arith)))
 
     module _ (place : ℕ) (others : (j : ℕ) (z : E) → (j ≡ place → ⊥) → g j z ≡ f j z) where
       -- one element is another one, which counts alike there
@@ -35,52 +36,49 @@ module _ {Q R : Type 0} (m : Measure Q R) where
       sum_changed i k p [] x y there here = absurd (none_some x there)
       sum_changed zero k p (z ∷ zs) x y there here =
           let at : place ≡ k = omega arith in
-          let eq : g k y ≡ f k z = ap (λ j. g j y) (sym at) ∙ (here ∙ (ap (f place) (sym (some_same z x there)) ∙ ap (λ j. f j z) at)) in
-          ap (λ a. m.plus a (sum_from m g (suc k) zs)) eq ∙ ap (m.plus (f k z)) (sum_alike (suc k) zs (λ j w h. others j w (λ q. omega arith)))
+          let same : z ≡ x = cc in
+          cc (sum_alike (suc k) zs (λ j w h. others j w (λ q. omega arith)))
       sum_changed (suc i) k p (z ∷ zs) x y there here =
-          ap (λ a. m.plus a (sum_from m g (suc k) (set zs i y))) (others k z (λ q. omega arith)) ∙ ap (m.plus (f k z)) (sum_changed i (suc k) (omega arith) zs x y there here)
+          cc (others k z (λ q. omega arith), sum_changed i (suc k) (omega arith) zs x y there here)
 
       -- one element more, which counts nothing
       pub sum_added : (k : ℕ) (xs : List E) → place ≡ k + length xs → (y : E) → g place y ≡ m.none → sum_from m g k (xs ++ (y ∷ [])) ≡ sum_from m f k xs
       unfolding sum_from
-      sum_added k [] p y here = let at : place ≡ k = omega arith in ap (λ j. m.plus (g j y) m.none) (sym at) ∙ (ap (λ a. m.plus a m.none) here ∙ m.neutral m.none)
+      sum_added k [] p y here = let at : place ≡ k = omega arith in cc (m.neutral m.none)
       sum_added k (x ∷ xs) p y here =
-          ap (λ a. m.plus a (sum_from m g (suc k) (xs ++ (y ∷ [])))) (others k x (λ q. omega arith)) ∙ ap (m.plus (f k x)) (sum_added (suc k) xs (omega arith) y here)
+          cc (others k x (λ q. omega arith), sum_added (suc k) xs (omega arith) y here)
 
   -- sums over the providers below n
   pub below_alike : (f g : ℕ → m.Amount) (n : ℕ) → ((k : ℕ) → k < n → f k ≡ g k) → sum_below m f n ≡ sum_below m g n
   unfolding sum_below
   below_alike f g zero e = refl
-  below_alike f g (suc n) e = ap (λ x. m.plus x (sum_below m f n)) (e n (omega arith)) ∙ ap (m.plus (g n)) (below_alike f g n (λ k h. e k (omega arith)))
+  below_alike f g (suc n) e = cc (e n (omega arith), below_alike f g n (λ k h. e k (omega arith)))
 
   pub below_plus : (f g : ℕ → m.Amount) (n : ℕ) → sum_below m (λ k. m.plus (f k) (g k)) n ≡ m.plus (sum_below m f n) (sum_below m g n)
   unfolding sum_below
   below_plus f g zero = sym (m.neutral m.none)
-  below_plus f g (suc n) = ap (m.plus (m.plus (f n) (g n))) (below_plus f g n) ∙ swap4 (f n) (g n) (sum_below m f n) (sum_below m g n)
+  below_plus f g (suc n) = cc (below_plus f g n, swap4 (f n) (g n) (sum_below m f n) (sum_below m g n))
 
   pub below_none : (n : ℕ) → sum_below m (λ k. m.none) n ≡ m.none
   unfolding sum_below
   below_none zero = refl
-  below_none (suc n) = m.neutral (sum_below m (λ k. m.none) n) ∙ below_none n
+  below_none (suc n) = cc (m.neutral (sum_below m (λ k. m.none) n), below_none n)
 
   -- what one provider p has, and the others do not
   abbrev pub only : ℕ → Bool → m.Amount → ℕ → m.Amount
   only p b a k = cond (eqb k p && b) a m.none
 
   only_here : (p : ℕ) (b : Bool) (a : m.Amount) (k : ℕ) → k ≡ p → only p b a k ≡ cond b a m.none
-  only_here p b a k e = ap (λ t. cond (t && b) a m.none) (eq-eqb k p e)
+  only_here p b a k e = grind (arith, nat_tests)
 
   only_else : (p : ℕ) (b : Bool) (a : m.Amount) (k : ℕ) → (k ≡ p → ⊥) → only p b a k ≡ m.none
-  only_else p b a k e = ap (λ t. cond (t && b) a m.none) (ne_eqb k p e)
+  only_else p b a k e = grind (arith, nat_tests)
 
   pub below_one : (p : ℕ) (b : Bool) (a : m.Amount) (n : ℕ) → p < n → sum_below m (only p b a) n ≡ cond b a m.none
   unfolding sum_below
   below_one p b a zero h = absurd (omega arith)
   below_one p b a (suc n) h =
       ⊎_elim
-      (λ (e : n ≡ p). ap (λ x. m.plus x (sum_below m (only p b a) n)) (only_here p b a n e)
-      ∙ (ap (m.plus (cond b a m.none)) (below_alike (only p b a) (λ k. m.none) n (λ k l. only_else p b a k (λ q. omega arith)) ∙ below_none n)
-      ∙ neutral_right (cond b a m.none)))
-      (λ (e : n ≡ p → ⊥). ap (λ x. m.plus x (sum_below m (only p b a) n)) (only_else p b a n e)
-      ∙ (m.neutral (sum_below m (only p b a) n) ∙ below_one p b a n (omega arith)))
+      (λ (e : n ≡ p). cc (only_here p b a n e, below_alike (only p b a) (λ k. m.none) n (λ k l. only_else p b a k (λ q. omega arith)), below_none n, neutral_right (cond b a m.none)))
+      (λ (e : n ≡ p → ⊥). cc (only_else p b a n e, m.neutral (sum_below m (only p b a) n), below_one p b a n (omega arith)))
       (cases_eq n p)

@@ -1,6 +1,7 @@
 -- The theorem: a call that is performed as defined keeps the law of every bureau of which its day is part.
-use Rattle.std.proofs.Common.{◌≡◌, ℕ, cond, List, [], ◌∷◌, sym, ap, ◌∙◌, subst, ⊎_elim}
-use Rattle.std.proofs.lemmas.Bool.{cases_eq, eq-eqb, ne_eqb}
+use Rattle.std.proofs.Common.{◌≡◌, ℕ, List, [], ◌∷◌, sym, ap, ◌∙◌, subst, ⊎_elim, arith}
+use Rattle.std.proofs.lemmas.Bool.{cases_eq}
+use Rattle.std.proofs.lemmas.Bool.Decides.{nat_tests}
 use Rattle.quantity.specs.Measure.{Measure}
 use Rattle.book.specs.Grid.{amounts}
 use Rattle.day_calls.specs.declared.calls.DayCall.{DayCall}
@@ -17,20 +18,20 @@ use Rattle.laws.proofs.Keeping.{keeps}
 module _ {Q : Type 0} (d : ℕ) (e : Event Q) (h : List (Entry Q)) where
   of_here : (k : ℕ) → k ≡ d → of_day k (record { day = d; event = e } ∷ h) ≡ e ∷ of_day k h
   unfolding of_day
-  of_here k q = ap (λ b. cond b (e ∷ of_day k h) (of_day k h)) (eq-eqb d k (sym q))
+  of_here k q = grind (arith, nat_tests)
 
   of_else : (k : ℕ) → (k ≡ d → ⊥) → of_day k (record { day = d; event = e } ∷ h) ≡ of_day k h
   unfolding of_day
-  of_else k n = ap (λ b. cond b (e ∷ of_day k h) (of_day k h)) (ne_eqb d k (λ q. n (sym q)))
+  of_else k n = grind (arith, nat_tests)
 
 module _ {D : Type 0} (days : ℕ → D) (d : ℕ) (s : D) where
   put_here : (k : ℕ) → k ≡ d → put_day days d s k ≡ s
   unfolding put_day
-  put_here k q = ap (λ b. cond b s (days k)) (eq-eqb k d q)
+  put_here k q = grind (arith, nat_tests)
 
   put_else : (k : ℕ) → (k ≡ d → ⊥) → put_day days d s k ≡ days k
   unfolding put_day
-  put_else k n = ap (λ b. cond b s (days k)) (ne_eqb k d n)
+  put_else k n = grind (arith, nat_tests)
 
 module _ {Q R : Type 0} (m : Measure Q R) (tenths : Q → ℕ → ℕ) (directions : ℕ) where
   -- the law of the day itself

@@ -1,5 +1,5 @@
 -- What passed from all providers together is what passed to them, so all holdings are all awards.
-use Rattle.std.proofs.Common.{◌≡◌, ℕ, suc, ◌+◌, ◌<◌, Bool, true, false, cond, ◌&&◌, ltb, leb, List, [], ◌∷◌, Some, None, Option, sym, refl, ap, ◌∙◌, arith}
+use Rattle.std.proofs.Common.{◌≡◌, ℕ, suc, ◌+◌, ◌<◌, Bool, true, false, cond, ◌&&◌, ltb, leb, List, [], ◌∷◌, Some, None, Option, sym, refl, ◌∙◌, arith}
 use Rattle.std.specs.List.{slice_get}
 use Rattle.quantity.specs.Measure.{Measure}
 use Rattle.book.specs.Grid.{Grid, amounts}
@@ -41,10 +41,7 @@ module _ {Q R : Type 0} (m : Measure Q R) where
       let here : sum_below m (λ p. out_at m words p t k r) 32 ≡ sum_below m (λ p. in_at m words p t k r) 32 =
       if_even (is_confirmed r.status) (λ p. from_giver m p t (words k)) (λ p. to_taker m p t (words k)) 32 (word_even t (words k) r (founded k 0 (omega arith))) in
       let rest = all_even words t (suc k) rs (λ j i e. founded j (suc i) (omega arith)) in
-      below_plus m (λ p. out_at m words p t k r) (λ p. sum_from m (out_at m words p t) (suc k) rs) 32
-      ∙ (ap (λ x. m.plus x (sum_below m (λ p. sum_from m (out_at m words p t) (suc k) rs) 32)) here
-      ∙ (ap (m.plus (sum_below m (λ p. in_at m words p t k r) 32)) rest
-      ∙ sym (below_plus m (λ p. in_at m words p t k r) (λ p. sum_from m (in_at m words p t) (suc k) rs) 32)))
+      cc (here, rest, below_plus m (λ p. out_at m words p t k r) (λ p. sum_from m (out_at m words p t) (suc k) rs) 32, below_plus m (λ p. in_at m words p t k r) (λ p. sum_from m (in_at m words p t) (suc k) rs) 32)
 
   pub holdings_awards : (awards : ℕ → ℕ → m.Amount) (words : Words Q) (grid : Grid m.Amount) (rs : List (Request R)) → Volume m awards words grid rs → AllFounded m words rs → (t : ℕ) → t < 100 → sum_below m (λ p. grid p t) 32 ≡ sum_below m (λ p. awards p t) 32
   holdings_awards awards words grid rs volume founded t h =
@@ -52,10 +49,7 @@ module _ {Q R : Type 0} (m : Measure Q R) where
       let into = sum_below m (λ p. passed_in m words rs p t) 32 in
       let even : out ≡ into = all_even words t 0 rs (founded_from m words rs founded) in
       cancels_right m (sum_below m (λ p. grid p t) 32) (sum_below m (λ p. awards p t) 32) into
-      (ap (m.plus (sum_below m (λ p. grid p t) 32)) (sym even)
-      ∙ (sym (below_plus m (λ p. grid p t) (λ p. passed_out m words rs p t) 32)
-      ∙ (below_alike m (λ p. m.plus (grid p t) (passed_out m words rs p t)) (λ p. m.plus (awards p t) (passed_in m words rs p t)) 32 (λ p l. volume p t l h)
-      ∙ below_plus m (λ p. awards p t) (λ p. passed_in m words rs p t) 32)))
+      (cc (even, below_plus m (λ p. grid p t) (λ p. passed_out m words rs p t) 32, below_alike m (λ p. m.plus (grid p t) (passed_out m words rs p t)) (λ p. m.plus (awards p t) (passed_in m words rs p t)) 32 (λ p l. volume p t l h), below_plus m (λ p. awards p t) (λ p. passed_in m words rs p t) 32))
 
 -- the law from what stands
 pub law_stands : {Q R : Type 0} (m : Measure Q R) (tenths : Q → ℕ → ℕ) (directions : ℕ) (h : List (Event Q)) (s : DayState Q R) → StandsAt m tenths directions h s.stage (amounts m s.held) s.requests s.sheet → DayLaw m tenths directions h s
