@@ -1,9 +1,8 @@
 -- The holdings that rows tell.
 use Rattle.std.proofs.Common.{◌≡◌, ℕ, zero, suc, add-zero, ◌+◌, ◌*◌, ◌<◌, ◌≤◌, Bool, true, false, cond, not, ◌&&◌, eqb, leb, ◌≢◌, List, ◌++◌, map, length, get_or, take, drop, set, Some, None, Option, unwrap_or, sym, refl, ap, ◌∙◌, ⊎_elim, arith, length-append, length-drop, length-set, length-take}
 use mathlib.Core.Path.{fun_ext}
-use Rattle.std.proofs.lemmas.List.Edits.{map_over_more}
-use Rattle.std.proofs.lemmas.List.{get_or_default, get_or-map, get_or_append_left, length-take-le, length-map, get_or-set_same, get_or-set_other, get_or_read}
-use Rattle.std.proofs.lemmas.Bool.{and_parts, and_from, and_cases, and_left, and_right, cond-true, cond-false, cond_both, eqb-true, eqb-false, leb-true, le-leb, lt-leb, not_from_true, not_from_false, true≢false}
+use Rattle.std.proofs.lemmas.List.{get_or-map, get_or_append_left, length-take-le, length-map, get_or-set_same, get_or-set_other, get_or_read}
+use Rattle.std.proofs.lemmas.Bool.{and_parts, and_from, and_cases, and_left, and_right, cond-true, cond-false, cond_both, eqb-true, eqb-false, leb-true, le-leb, lt-leb, not_from_false, true≢false}
 use Rattle.quantity.specs.Measure.{Measure, is_zero}
 use Rattle.book.specs.Grid.{Grid, in_range, put, total, amounts, filled, taken}
 use Rattle.book.specs.Calls.{held_at, crowded, change_refusal, everything, changed}

@@ -78,6 +78,7 @@ impl<M: Slots<Slot = Option<Record<K::Row>>>, K: Quantity> Book for RecordBook<M
         records::holding(self.slots.slots(), provider, quarter)
     }
 
+    #[tactic(auto, using(crate::proofs::Counting::free_and_taken))]
     fn free(&self) -> usize {
         records::free::<K>(self.slots.slots())
     }

@@ -1,10 +1,10 @@
-use Rattle.std.proofs.Common.{◌≡◌, true, false, length, set, Some, None, unwrap_or, sym, refl, ap, ◌∙◌}
+use Rattle.std.proofs.Common.{◌≡◌, true, false, length, Some, None, unwrap_or, sym, ap, ◌∙◌}
 use Rattle.std.specs.List.{position}
 use Rattle.std.specs.Result.{result_ok}
 use Rattle.quantity.specs.Measure.{is_zero}
 use Rattle.book.specs.Grid.{put, amounts}
-use Rattle.sparse_book.specs.Records.{records_held, apart, place_for, settled, changed_slots, released, keyed}
-use Rattle.sparse_book.proofs.Settling.{settled_zero, settled_at, place_found, settled_now, zero_amounts, zero_apart, some_amounts, some_apart, zero_answer, some_answer, full_answer, settled_length}
+use Rattle.sparse_book.specs.Records.{records_held, apart, settled, changed_slots, released, keyed}
+use Rattle.sparse_book.proofs.Settling.{settled_zero, place_found, settled_now, zero_amounts, zero_apart, some_amounts, some_apart, zero_answer, some_answer, full_answer, settled_length}
 use Rattle.sparse_book.proofs.record_book.RecordBook.change.Goals as goal
 
 pub invariant_of-self : goal.invariant_of-self
