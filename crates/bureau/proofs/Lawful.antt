@@ -1,6 +1,6 @@
 -- One call of a bureau keeps the law.
-use Rattle.std.proofs.Common.{◌≡◌, ℕ, ◌≤◌, Bool, true, false, cond, ltb, List, [], ◌∷◌, Option, Err, sym, refl, ap, ◌∙◌, subst, ⊎_elim, arith}
-use Rattle.std.proofs.lemmas.Bool.{cases_eq, eq-eqb, ne_eqb, cond-true, cond-false}
+use Rattle.std.proofs.Common.{◌≡◌, ℕ, ◌≤◌, Bool, true, false, ltb, List, [], ◌∷◌, Option, Err, sym, refl, ap, ◌∙◌, subst, ⊎_elim, arith}
+use Rattle.std.proofs.lemmas.Bool.{cond-true, cond-false}
 use Rattle.quantity.specs.Measure.{Measure}
 use Rattle.book.specs.Grid.{amounts}
 use Rattle.refusals.specs.declared.refusal.Refusal.{Refusal}
@@ -18,7 +18,7 @@ use Rattle.laws.specs.Laws.{Entry, of_day, put_day, DayLaw, Laws}
 use Rattle.laws.proofs.Answers.{tells_awarded, tells_placed, awarded_by, placed_by, unless_award, unless_place}
 use Rattle.laws.proofs.Stands.{stands, StandsAt, idle}
 use Rattle.laws.proofs.Together.{law_stands}
-use Rattle.laws.proofs.Theorem.{day_kept}
+use Rattle.laws.proofs.Theorem.{put_here, put_else, day_kept, by_day}
 use Rattle.bureau.specs.declared.calls.Call.{Call}
 use Rattle.bureau.specs.declared.calls.Call.TheVariants.{Open, On}
 use Rattle.bureau.specs.declared.calls.Reply.{Reply}
@@ -29,38 +29,13 @@ module _ {Q R : Type 0} (m : Measure Q R) (tenths : Q → ℕ → ℕ) (directio
   abbrev Days : Type 0
   Days = ℕ → DayState Q R
 
-  of_here : (d : ℕ) (e : Event Q) (h : List (Entry Q)) (k : ℕ) → k ≡ d → of_day k (record { day = d; event = e } ∷ h) ≡ e ∷ of_day k h
-  unfolding of_day
-  of_here d e h k p = ap (λ b. cond b (e ∷ of_day k h) (of_day k h)) (eq-eqb d k (sym p))
-
-  of_else : (d : ℕ) (e : Event Q) (h : List (Entry Q)) (k : ℕ) → (k ≡ d → ⊥) → of_day k (record { day = d; event = e } ∷ h) ≡ of_day k h
-  unfolding of_day
-  of_else d e h k n = ap (λ b. cond b (e ∷ of_day k h) (of_day k h)) (ne_eqb d k (λ p. n (sym p)))
-
-  -- the law of all days, where one event is of day d and the other days stay
-  by_day : (d : ℕ) (e : Event Q) (days after : Days) (h : List (Entry Q)) → Laws m tenths directions h days → ((k : ℕ) → (k ≡ d → ⊥) → after k ≡ days k) → DayLaw m tenths directions (e ∷ of_day d h) (after d) → Laws m tenths directions (record { day = d; event = e } ∷ h) after
-  by_day d e days after h laws others here k =
-      ⊎_elim
-      (λ (p : k ≡ d). subst (λ x. DayLaw m tenths directions x (after k)) (sym (of_here d e h k p)) (subst (λ j. DayLaw m tenths directions (e ∷ of_day j h) (after j)) (sym p) here))
-      (λ (n : k ≡ d → ⊥). subst (λ x. DayLaw m tenths directions x (after k)) (sym (of_else d e h k n)) (subst (DayLaw m tenths directions (of_day k h)) (sym (others k n)) (laws k)))
-      (cases_eq k d)
-
-  put_here : (days : Days) (d : ℕ) (s : DayState Q R) → put_day days d s d ≡ s
-  unfolding put_day
-  put_here days d s = ap (λ b. cond b s (days d)) (eq-eqb d d refl)
-
-  put_else : (days : Days) (d k : ℕ) (s : DayState Q R) → (k ≡ d → ⊥) → put_day days d s k ≡ days k
-  unfolding put_day
-  put_else days d k s n = ap (λ b. cond b s (days k)) (ne_eqb k d n)
-
   -- an event that is neither an award nor an announcement that was taken
   day_idle : (e : Event Q) (h : List (Event Q)) (s : DayState Q R) → is_awarded e.answer ≡ false → ((k : ℕ) → is_placed k e.answer ≡ false) → DayLaw m tenths directions h s → DayLaw m tenths directions (e ∷ h) s
   day_idle e h s a w law = law_stands m tenths directions (e ∷ h) s (idle m tenths directions e h a w s.stage (amounts m s.held) s.requests s.sheet (stands m tenths directions h s law))
 
   idle_laws : (d : ℕ) (e : Event Q) (days after : Days) (h : List (Entry Q)) → after ≡ days → is_awarded e.answer ≡ false → ((k : ℕ) → is_placed k e.answer ≡ false) → Laws m tenths directions h days → Laws m tenths directions (record { day = d; event = e } ∷ h) after
   idle_laws d e days after h same a w laws =
-      by_day d e days after h laws (λ k n. ap (λ (f : Days). f k) same)
-      (subst (λ (f : Days). DayLaw m tenths directions (e ∷ of_day d h) (f d)) (sym same) (day_idle e (of_day d h) (days d) a w (laws d)))
+      rw same (by_day m tenths directions d e days days h laws (λ k n. refl) (day_idle e (of_day d h) (days d) a w (laws d)))
 
   -- a call that was not made
   not_made : (why : NotCalled) (d : ℕ) (call : DayCall Q) (answer : Outcome Q) (days after : Days) (h : List (Entry Q)) → answer ≡ Err (NotMade why) → after ≡ days → Laws m tenths directions h days → Laws m tenths directions (record { day = d; event = record { call = call; answer = answer } } ∷ h) after
@@ -87,9 +62,9 @@ module _ {Q R : Type 0} (m : Measure Q R) (tenths : Q → ℕ → ℕ) (directio
       by_answer : (b : Bool) → is_opened answer ≡ b → Laws m tenths directions (record { day = d; event = record { call = OpenDay number quarters; answer = answer } } ∷ h) after.days
       by_answer true e =
           let now : after.days ≡ put_day before.days d o.opened = o.days_are ∙ (cond-true (is_opened answer) (put_day before.days before.count o.opened) before.days e ∙ ap (λ c. put_day before.days c o.opened) (sym at)) in
-          by_day d (record { call = OpenDay number quarters; answer = answer }) before.days after.days h laws
-          (λ k n. ap (λ (f : Days). f k) now ∙ put_else before.days d k o.opened n)
-          (subst (DayLaw m tenths directions (record { call = OpenDay number quarters; answer = answer } ∷ of_day d h)) (sym (ap (λ (f : Days). f d) now ∙ put_here before.days d o.opened))
+          by_day m tenths directions d (record { call = OpenDay number quarters; answer = answer }) before.days after.days h laws
+          (λ k n. ap (λ (f : Days). f k) now ∙ put_else before.days d o.opened k n)
+          (subst (DayLaw m tenths directions (record { call = OpenDay number quarters; answer = answer } ∷ of_day d h)) (sym (ap (λ (f : Days). f d) now ∙ put_here before.days d o.opened d refl))
           (day_kept m tenths directions o.supplied o.opened (OpenDay number quarters) answer o.performed (of_day d h) (fresh_law o.supplied (of_day d h) o.fresh (subst (DayLaw m tenths directions (of_day d h)) absent (laws d)))))
       by_answer false e =
           idle_laws d (record { call = OpenDay number quarters; answer = answer }) before.days after.days h (o.days_are ∙ cond-false (is_opened answer) (put_day before.days before.count o.opened) before.days e)
@@ -99,9 +74,9 @@ module _ {Q R : Type 0} (m : Measure Q R) (tenths : Q → ℕ → ℕ) (directio
 
   called_keeps : (b : Bool) (before after : BureauState Q R) (d : ℕ) (call : DayCall Q) (answer : Outcome Q) → Called m tenths directions b before d call answer after → (h : List (Entry Q)) → Laws m tenths directions h before.days → Laws m tenths directions (record { day = d; event = record { call = call; answer = answer } } ∷ h) after.days
   called_keeps true before after d call answer p h laws =
-      by_day d (record { call = call; answer = answer }) before.days after.days h laws
-      (λ k n. ap (λ (f : Days). f k) p.days_are ∙ put_else before.days d k p.then n)
-      (subst (DayLaw m tenths directions (record { call = call; answer = answer } ∷ of_day d h)) (sym (ap (λ (f : Days). f d) p.days_are ∙ put_here before.days d p.then))
+      by_day m tenths directions d (record { call = call; answer = answer }) before.days after.days h laws
+      (λ k n. ap (λ (f : Days). f k) p.days_are ∙ put_else before.days d p.then k n)
+      (subst (DayLaw m tenths directions (record { call = call; answer = answer } ∷ of_day d h)) (sym (ap (λ (f : Days). f d) p.days_are ∙ put_here before.days d p.then d refl))
       (day_kept m tenths directions (before.days d) p.then call answer p.performed (of_day d h) (laws d)))
   called_keeps false before after d call answer p h laws = not_made NoSuchDay d call answer before.days after.days h p.0 p.1.days_stay laws
 

@@ -14,8 +14,8 @@ use quantity::reserve::ReserveQuantity;
 use refusals::refusal::Refusal;
 
 impl Announcing {
-    #[tactic(auto, using(refusals::proofs::Once::answer_once))]
     /// Awards a quantity to a provider in every quarter of a block of this day, at a price for each direction.
+    #[tactic(auto, using(refusals::proofs::Once::answer_once))]
     pub fn award<O: Book>(
         &self,
         obligations: &mut O,

@@ -1,5 +1,5 @@
 -- The theorem: a call that is performed as defined keeps the law of every bureau of which its day is part.
-use Rattle.std.proofs.Common.{◌≡◌, ℕ, List, [], ◌∷◌, sym, ap, ◌∙◌, subst, ⊎_elim, arith}
+use Rattle.std.proofs.Common.{◌≡◌, ℕ, List, [], ◌∷◌, sym, subst, ⊎_elim, refl, arith}
 use Rattle.std.proofs.lemmas.Bool.{cases_eq}
 use Rattle.std.proofs.lemmas.Bool.Decides.{nat_tests}
 use Rattle.quantity.specs.Measure.{Measure}
@@ -25,11 +25,11 @@ module _ {Q : Type 0} (d : ℕ) (e : Event Q) (h : List (Entry Q)) where
   of_else k n = grind (arith, nat_tests)
 
 module _ {D : Type 0} (days : ℕ → D) (d : ℕ) (s : D) where
-  put_here : (k : ℕ) → k ≡ d → put_day days d s k ≡ s
+  pub put_here : (k : ℕ) → k ≡ d → put_day days d s k ≡ s
   unfolding put_day
   put_here k q = grind (arith, nat_tests)
 
-  put_else : (k : ℕ) → (k ≡ d → ⊥) → put_day days d s k ≡ days k
+  pub put_else : (k : ℕ) → (k ≡ d → ⊥) → put_day days d s k ≡ days k
   unfolding put_day
   put_else k n = grind (arith, nat_tests)
 
@@ -45,15 +45,18 @@ module _ {Q R : Type 0} (m : Measure Q R) (tenths : Q → ℕ → ℕ) (directio
       (subst (λ y. StandsAt m tenths directions hh (stage_after m tenths directions before call) (held_after m tenths directions before call) y after.sheet) (sym p.requests_is)
       (subst (λ y. StandsAt m tenths directions hh (stage_after m tenths directions before call) (held_after m tenths directions before call) (requests_after m tenths directions before call) y) (sym p.sheet_is) x))))
 
-  pub kept : Kept m tenths directions
-  kept before after call answer p d days h is laws k =
-      let e : Event Q = record { call = call; answer = answer } in
+  -- the law of all days, where one event is of day d and the other days stay
+  pub by_day : (d : ℕ) (e : Event Q) (days after : ℕ → DayState Q R) (h : List (Entry Q)) → Laws m tenths directions h days → ((k : ℕ) → (k ≡ d → ⊥) → after k ≡ days k) → DayLaw m tenths directions (e ∷ of_day d h) (after d) → Laws m tenths directions (record { day = d; event = e } ∷ h) after
+  by_day d e days after h laws others here k =
       ⊎_elim
-      (λ (q : k ≡ d).
-      rw (of_here d e h k q, put_here days d after k q)
-      (day_kept before after call answer p (of_day k h) (subst (DayLaw m tenths directions (of_day k h)) (ap days q ∙ is) (laws k))))
-      (λ (n : k ≡ d → ⊥). rw (of_else d e h k n, put_else days d after k n) (laws k))
+      (λ (p : k ≡ d). rw (of_here d e h k p) (subst (λ j. DayLaw m tenths directions (e ∷ of_day j h) (after j)) (sym p) here))
+      (λ (n : k ≡ d → ⊥). rw (of_else d e h k n, others k n) (laws k))
       (cases_eq k d)
+
+  pub kept : Kept m tenths directions
+  kept before after call answer p d days h is laws =
+      by_day d (record { call = call; answer = answer }) days (put_day days d after) h laws (put_else days d after)
+      (rw (put_here days d after d refl) (day_kept before after call answer p (of_day d h) (subst (DayLaw m tenths directions (of_day d h)) is (laws d))))
 
   -- before the first call: days that are not opened
   pub begins : (days : ℕ → DayState Q R) → ((d : ℕ) → (days d).stage ≡ Unopened) → Laws m tenths directions [] days
