@@ -1,4 +1,3 @@
 pub mod Quarters
-pub mod Earned
 pub mod Awarding
 mod Repeated

@@ -1,5 +1,6 @@
 -- What an award earns, answers and changes.
-use Rattle.std.specs.Prelude.{ℕ, ◌+◌, ◌*◌, Bool, false, not, ◌||◌, List, [], ◌∷◌, ◌++◌, length, Option, ◌==◌, nat_le, nat_lt, slice_index}
+use Rattle.std.specs.Prelude.{ℕ, ◌+◌, ◌*◌, Bool, not, List, [], ◌∷◌, ◌++◌, length, Option, ◌==◌, nat_le, nat_lt, slice_index}
+use Rattle.std.specs.List.{list_any}
 use Rattle.quantity.specs.Measure.{Measure, is_zero}
 use Rattle.book.specs.Grid.{Grid, amounts, total}
 use Rattle.book.specs.Admissions.{Admission}
@@ -9,6 +10,7 @@ use Rattle.refusals.specs.declared.refusal.Refusal.TheVariants.{NoSuchProvider, 
 use Rattle.span_moves.specs.declared.change.Change.TheVariants.{Raising}
 use Rattle.span_moves.specs.Spans.{spanned}
 use Rattle.span_moves.specs.Moves.{span_refusal}
+use Rattle.awards.specs.Accounts.{most_awards, most_cents}
 use Rattle.awards.specs.Blocks.{first_of_block, last_of_block, count_of_block}
 use Rattle.awards.specs.Sheets.{SheetView, entered}
 
@@ -19,10 +21,9 @@ earns_in tenths prices quarters d = slice_index prices d * tenths d * quarters
 unfoldable pub award_earns : (tenths : ℕ → ℕ) (prices : List ℕ) (directions quarters : ℕ) → ℕ
 award_earns tenths prices directions quarters = total (earns_in tenths prices quarters) directions
 
--- whether a price is above 200,000 cents
+-- whether a price is above the highest
 abbrev pub overpriced : List ℕ → Bool
-overpriced [] = false
-overpriced (price ∷ prices) = nat_lt 200000 price || overpriced prices
+overpriced prices = list_any (λ price. nat_lt most_cents price) prices
 
 -- why an award is refused by itself, in this order; awards are those that the sheet has
 abbrev pub award_conditions : {Q R : Type 0} → Measure Q R → (directions awards provider block : ℕ) → Q → List ℕ → List (Option Refusal)
@@ -31,7 +32,7 @@ award_conditions m directions awards provider block quantity prices =
     ∷ (when (nat_lt 6 block) NoSuchSpan
     ∷ (when (is_zero m quantity) ZeroQuantity
     ∷ (when (not (length prices == directions)) WrongPriceCount
-    ∷ (when (overpriced prices) PriceTooLarge ∷ (when (nat_le 512 awards) TooManyAwards ∷ [])))))
+    ∷ (when (overpriced prices) PriceTooLarge ∷ (when (nat_le most_awards awards) TooManyAwards ∷ [])))))
 
 module _ {Q R : Type 0} (m : Measure Q R) (held : Grid Q) (places : ℕ) (admission : ℕ → ℕ → Q → Admission) where
   -- why an award is refused, if it is: by itself, or since its block cannot be raised

@@ -1,3 +1,4 @@
 pub mod Blocks
+pub mod Accounts
 pub mod Sheets
 pub mod Awards

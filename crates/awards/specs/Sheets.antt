@@ -1,7 +1,8 @@
 -- What a sheet tells.
-use Rattle.std.specs.Prelude.{ℕ, ◌+◌, Bool, false, cond, ◌&&◌, [], ◌==◌, nat_le, nat_lt, slice_index, slice_index_or}
+use Rattle.std.specs.Prelude.{ℕ, ◌+◌, Bool, false, cond, ◌&&◌, ◌==◌, nat_le, nat_lt, slice_index_or}
 use Rattle.book.specs.Grid.{in_range}
 use Rattle.awards.specs.declared.sheet.Sheet.{Sheet}
+use Rattle.awards.specs.Accounts.{account_of, most_awards, most_earned}
 
 -- what each provider earned, in which quarters it is exempt, and how many awards there are
 pub record SheetView : Type 0 where
@@ -11,7 +12,7 @@ pub record SheetView : Type 0 where
 
 -- nothing is earned and nobody is exempt outside the range
 abbrev pub view : Sheet → SheetView
-view s = record { earned = λ p. slice_index s.earnings p; exempt = λ p t. cond (in_range p t) (slice_index_or (slice_index_or s.exempt p []) t false) false; awards = s.awards }
+view s = record { earned = λ p. (account_of s.accounts p).earned; exempt = λ p t. cond (in_range p t) (slice_index_or (account_of s.accounts p).exempt t false) false; awards = s.awards }
 
 -- the sheet of a day without awards
 abbrev pub blank_view : SheetView
@@ -23,4 +24,4 @@ entered provider amount v = record { earned = λ p. cond (p == provider) (v.earn
 
 -- whether there is such a provider, room for one more award, and the amount is one that an award can earn
 abbrev pub enterable : ℕ → ℕ → SheetView → Bool
-enterable provider amount v = nat_lt provider 32 && (nat_lt v.awards 512 && nat_le amount 400000000000)
+enterable provider amount v = nat_lt provider 32 && (nat_lt v.awards most_awards && nat_le amount most_earned)

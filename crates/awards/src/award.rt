@@ -7,6 +7,7 @@ ghost use Rattle.span_moves.specs.Spans.{Alike};
 ghost use Rattle.awards.specs.Sheets.{view};
 ghost use Rattle.awards.specs.Awards.{award_conditions, award_refusal, award_after, award_sheet};
 
+use crate::awarded::Award;
 use crate::blocks::{block_count, block_first, block_last};
 use crate::prices::{award_earnings, has_large_price};
 use crate::sheet::Sheet;
@@ -20,20 +21,18 @@ use span_moves::spans::raise_span;
 // The refusals of an award that need no book.
 fn check_award<Q: ReserveQuantity>(
     sheet: &Sheet,
-    provider: u8,
-    block: u8,
-    quantity: Q,
+    award: Award<Q>,
     prices: &[u32],
 ) -> Result<(), Refusal>
-    ensures { result_err result ≡ first_some (award_conditions Q.Quantity.measure Q.ReserveQuantity.directions (view sheet.now).awards provider block quantity prices.now) }
+    ensures { result_err result ≡ first_some (award_conditions Q.Quantity.measure Q.ReserveQuantity.directions (view sheet.now).awards award.provider award.block award.quantity prices.now) }
 {
-    if provider >= 32 {
+    if award.provider >= 32 {
         return Err(Refusal::NoSuchProvider);
     }
-    if block > 6 {
+    if award.block > 6 {
         return Err(Refusal::NoSuchSpan);
     }
-    if quantity.equals(Q::zero()) {
+    if award.quantity.equals(Q::zero()) {
         return Err(Refusal::ZeroQuantity);
     }
     if prices.len() != Q::direction_count() as usize {
@@ -54,30 +53,24 @@ pub fn award<O: Book>(
     quarters: u8,
     obligations: &mut O,
     sheet: &mut Sheet,
-    provider: u8,
-    block: u8,
-    quantity: O::Q,
+    award: Award<O::Q>,
     prices: &[u32],
 ) -> Result<(), Refusal>
 where
     O::Q: ReserveQuantity,
-    ensures answer { answer_number (result_err result) ≡ answer_number (award_refusal O.Q.Quantity.measure (O.Book.holdings obligations.old) (O.Book.places obligations.old) (O.Book.admission obligations.old) O.Q.ReserveQuantity.directions quarters (view sheet.old).awards provider block quantity prices.now) }
-    ensures alike { Alike O.Q.Quantity.measure (O.Book.holdings obligations.old) quantity (λ other q. award_refusal O.Q.Quantity.measure other (O.Book.places obligations.old) (O.Book.admission obligations.old) O.Q.ReserveQuantity.directions quarters (view sheet.old).awards provider block q prices.now) (result_err result) }
-    ensures after { amounts O.Q.Quantity.measure (O.Book.holdings obligations.new) ≡ award_after O.Q.Quantity.measure (O.Book.holdings obligations.old) (O.Book.places obligations.old) (O.Book.admission obligations.old) O.Q.ReserveQuantity.directions quarters (view sheet.old).awards provider block quantity prices.now }
+    ensures answer { answer_number (result_err result) ≡ answer_number (award_refusal O.Q.Quantity.measure (O.Book.holdings obligations.old) (O.Book.places obligations.old) (O.Book.admission obligations.old) O.Q.ReserveQuantity.directions quarters (view sheet.old).awards award.provider award.block award.quantity prices.now) }
+    ensures alike { Alike O.Q.Quantity.measure (O.Book.holdings obligations.old) award.quantity (λ other q. award_refusal O.Q.Quantity.measure other (O.Book.places obligations.old) (O.Book.admission obligations.old) O.Q.ReserveQuantity.directions quarters (view sheet.old).awards award.provider award.block q prices.now) (result_err result) }
+    ensures after { amounts O.Q.Quantity.measure (O.Book.holdings obligations.new) ≡ award_after O.Q.Quantity.measure (O.Book.holdings obligations.old) (O.Book.places obligations.old) (O.Book.admission obligations.old) O.Q.ReserveQuantity.directions quarters (view sheet.old).awards award.provider award.block award.quantity prices.now }
     ensures places { O.Book.places obligations.new ≡ O.Book.places obligations.old }
     ensures admission { O.Book.admission obligations.new ≡ O.Book.admission obligations.old }
     ensures layer { O.Book.layer_number obligations.new ≡ O.Book.layer_number obligations.old }
-    ensures sheet { view sheet.new ≡ award_sheet O.Q.Quantity.measure (O.Book.holdings obligations.old) (O.Book.places obligations.old) (O.Book.admission obligations.old) O.Q.ReserveQuantity.tenths_in O.Q.ReserveQuantity.directions quarters provider block quantity prices.now (view sheet.old) }
+    ensures sheet { view sheet.new ≡ award_sheet O.Q.Quantity.measure (O.Book.holdings obligations.old) (O.Book.places obligations.old) (O.Book.admission obligations.old) O.Q.ReserveQuantity.tenths_in O.Q.ReserveQuantity.directions quarters award.provider award.block award.quantity prices.now (view sheet.old) }
 {
-    if let Err(refusal) = check_award(sheet, provider, block, quantity, prices) {
-        return Err(refusal);
-    }
-    let first = block_first(quarters, block);
-    let last = block_last(quarters, block);
-    if let Err(refusal) = raise_span(obligations, provider, first, last, quantity) {
-        return Err(refusal);
-    }
-    let earned = award_earnings(quantity, prices, block_count(quarters, block));
-    sheet.enter(provider, earned);
+    check_award(sheet, award, prices)?;
+    let first = block_first(quarters, award.block);
+    let last = block_last(quarters, award.block);
+    raise_span(obligations, award.provider, first, last, award.quantity)?;
+    let earned = award_earnings(award.quantity, prices, block_count(quarters, award.block));
+    sheet.enter(award.provider, earned);
     Ok(())
 }

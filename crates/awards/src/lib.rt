@@ -1,6 +1,7 @@
 #![tactic(auto)]
 
 pub mod award;
+pub mod awarded;
 pub mod blocks;
 mod prices;
 pub mod sheet;

@@ -6,13 +6,13 @@ use Rattle.std.proofs.lemmas.List.{map-set, map-append, get_or-set_same, get_or-
 use Rattle.std.proofs.lemmas.Bool.{cases_eq, cases_lt, eq-eqb, ne_eqb, true≢false}
 use Rattle.quantity.specs.Measure.{Measure}
 use Rattle.day_calls.specs.declared.calls.DayCall.{DayCall}
-use Rattle.day_calls.specs.declared.calls.Answer.{Answer}
+use Rattle.day_calls.specs.Answers.{Outcome}
 use Rattle.laws.specs.Laws.{put_day}
 use Rattle.day_calls.specs.Days.{DayState}
 use Rattle.bureau.specs.Bureaus.{absent_day, BureauState, OnDay, Called}
 
 -- a call of a day that there is
-pub called : {Q R : Type 0} {m : Measure Q R} {tenths : Q → ℕ → ℕ} {directions : ℕ} {before after : BureauState Q R} {day : ℕ} {call : DayCall Q} {answer : Answer Q} (b : Bool) → b ≡ true → OnDay m tenths directions before day call answer after → Called m tenths directions b before day call answer after
+pub called : {Q R : Type 0} {m : Measure Q R} {tenths : Q → ℕ → ℕ} {directions : ℕ} {before after : BureauState Q R} {day : ℕ} {call : DayCall Q} {answer : Outcome Q} (b : Bool) → b ≡ true → OnDay m tenths directions before day call answer after → Called m tenths directions b before day call answer after
 called true e p = p
 called false e p = absurd (true≢false (sym e))
 

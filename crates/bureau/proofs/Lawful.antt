@@ -1,18 +1,17 @@
 -- One call of a bureau keeps the law.
-use Rattle.std.proofs.Common.{◌≡◌, ℕ, ◌≤◌, Bool, true, false, cond, ltb, List, [], ◌∷◌, Option, sym, refl, ap, ◌∙◌, subst, ⊎_elim, arith}
+use Rattle.std.proofs.Common.{◌≡◌, ℕ, ◌≤◌, Bool, true, false, cond, ltb, List, [], ◌∷◌, Option, Err, sym, refl, ap, ◌∙◌, subst, ⊎_elim, arith}
 use Rattle.std.proofs.lemmas.Bool.{cases_eq, eq-eqb, ne_eqb, cond-true, cond-false}
 use Rattle.quantity.specs.Measure.{Measure}
 use Rattle.book.specs.Grid.{amounts}
 use Rattle.refusals.specs.declared.refusal.Refusal.{Refusal}
 use Rattle.day_calls.specs.declared.calls.DayCall.{DayCall}
 use Rattle.day_calls.specs.declared.calls.DayCall.TheVariants.{Open as OpenDay}
-use Rattle.day_calls.specs.declared.calls.Answer.{Answer}
-use Rattle.day_calls.specs.declared.calls.Answer.TheVariants.{NotCalled as NotMade}
+use Rattle.day_calls.specs.declared.calls.NotDone.TheVariants.{NotCalled as NotMade}
 use Rattle.day_calls.specs.declared.calls.NotCalled.{NotCalled}
 use Rattle.day_calls.specs.declared.calls.NotCalled.TheVariants.{NoSuchDay, NoMemory}
 use Rattle.day_calls.specs.declared.desk.Stage.{Stage}
 use Rattle.day_calls.specs.declared.desk.Stage.TheVariants.{Unopened, Announcing, Reconciling, Intraday}
-use Rattle.day_calls.specs.Answers.{numbered, unless, not_in_stage}
+use Rattle.day_calls.specs.Answers.{Outcome, numbered, unless, not_in_stage}
 use Rattle.day_calls.specs.Days.{DayState, if_unopened, answered, open_refused}
 use Rattle.laws.specs.Volumes.{Event, is_awarded, is_placed}
 use Rattle.laws.specs.Laws.{Entry, of_day, put_day, DayLaw, Laws}
@@ -64,7 +63,7 @@ module _ {Q R : Type 0} (m : Measure Q R) (tenths : Q → ℕ → ℕ) (directio
       (subst (λ (f : Days). DayLaw m tenths directions (e ∷ of_day d h) (f d)) (sym same) (day_idle e (of_day d h) (days d) a w (laws d)))
 
   -- a call that was not made
-  not_made : (why : NotCalled) (d : ℕ) (call : DayCall Q) (answer : Answer Q) (days after : Days) (h : List (Entry Q)) → answer ≡ NotMade why → after ≡ days → Laws m tenths directions h days → Laws m tenths directions (record { day = d; event = record { call = call; answer = answer } } ∷ h) after
+  not_made : (why : NotCalled) (d : ℕ) (call : DayCall Q) (answer : Outcome Q) (days after : Days) (h : List (Entry Q)) → answer ≡ Err (NotMade why) → after ≡ days → Laws m tenths directions h days → Laws m tenths directions (record { day = d; event = record { call = call; answer = answer } } ∷ h) after
   not_made why d call answer days after h e same laws = idle_laws d (record { call = call; answer = answer }) days after h same (ap is_awarded e) (λ k. ap (is_placed k) e) laws
 
   -- the answer to an opening is no award and no announcement
@@ -81,7 +80,7 @@ module _ {Q R : Type 0} (m : Measure Q R) (tenths : Q → ℕ → ℕ) (directio
       (subst (λ y. StandsAt m tenths directions h y (amounts m s.held) s.requests s.sheet) (sym f.unopened)
       (record { volume = tt; earnings = tt; founded = tt; length = tt; quiet = law.quiet }))
 
-  opened_keeps : (before after : BureauState Q R) (number quarters d : ℕ) (answer : Answer Q) → d ≡ before.count → before.days d ≡ absent_day m → OpenedDay m tenths directions before number quarters answer after → (h : List (Entry Q)) → Laws m tenths directions h before.days → Laws m tenths directions (record { day = d; event = record { call = OpenDay number quarters; answer = answer } } ∷ h) after.days
+  opened_keeps : (before after : BureauState Q R) (number quarters d : ℕ) (answer : Outcome Q) → d ≡ before.count → before.days d ≡ absent_day m → OpenedDay m tenths directions before number quarters answer after → (h : List (Entry Q)) → Laws m tenths directions h before.days → Laws m tenths directions (record { day = d; event = record { call = OpenDay number quarters; answer = answer } } ∷ h) after.days
   unfolding answered
   opened_keeps before after number quarters d answer at absent o h laws = by_answer (is_opened answer) refl
     where
@@ -98,7 +97,7 @@ module _ {Q R : Type 0} (m : Measure Q R) (tenths : Q → ℕ → ℕ) (directio
           (λ k. placed_by k answer (answered m tenths directions o.supplied (OpenDay number quarters)) false o.performed.answer_is ((opening_quiet o.supplied.stage (open_refused m tenths directions o.supplied number quarters)).1 k))
           laws
 
-  called_keeps : (b : Bool) (before after : BureauState Q R) (d : ℕ) (call : DayCall Q) (answer : Answer Q) → Called m tenths directions b before d call answer after → (h : List (Entry Q)) → Laws m tenths directions h before.days → Laws m tenths directions (record { day = d; event = record { call = call; answer = answer } } ∷ h) after.days
+  called_keeps : (b : Bool) (before after : BureauState Q R) (d : ℕ) (call : DayCall Q) (answer : Outcome Q) → Called m tenths directions b before d call answer after → (h : List (Entry Q)) → Laws m tenths directions h before.days → Laws m tenths directions (record { day = d; event = record { call = call; answer = answer } } ∷ h) after.days
   called_keeps true before after d call answer p h laws =
       by_day d (record { call = call; answer = answer }) before.days after.days h laws
       (λ k n. ap (λ (f : Days). f k) p.days_are ∙ put_else before.days d k p.then n)
@@ -110,7 +109,7 @@ module _ {Q R : Type 0} (m : Measure Q R) (tenths : Q → ℕ → ℕ) (directio
   pub stepped_keeps : (before after : BureauState Q R) (call : Call Q) (reply : Reply Q) → ((k : ℕ) → before.count ≤ k → before.days k ≡ absent_day m) → Stepped m tenths directions before call reply after → (h : List (Entry Q)) → Laws m tenths directions h before.days → Laws m tenths directions (entry_of call reply ∷ h) after.days
   stepped_keeps before after (Open number quarters) reply absent s h laws =
       ⊎_elim
-      (λ (x : (reply.answer ≡ NotMade NoMemory) × Unchanged m tenths directions before after). not_made NoMemory reply.day (OpenDay number quarters) reply.answer before.days after.days h x.0 x.1.days_stay laws)
+      (λ (x : (reply.answer ≡ Err (NotMade NoMemory)) × Unchanged m tenths directions before after). not_made NoMemory reply.day (OpenDay number quarters) reply.answer before.days after.days h x.0 x.1.days_stay laws)
       (λ (x : OpenedDay m tenths directions before number quarters reply.answer after). opened_keeps before after number quarters reply.day reply.answer s.0 (absent reply.day (let w : before.count ≤ reply.day = omega (arith, s.0) in w)) x h laws)
       s.1
   stepped_keeps before after (On day call) reply absent s h laws = called_keeps (ltb day before.count) before after day call reply.answer s.1 h laws

@@ -1,14 +1,15 @@
 -- A bureau: its days side by side, what one call does to it, and what a run of calls does.
-use Rattle.std.specs.Prelude.{◌≡◌, ℕ, ◌+◌, Bool, true, false, cond, ◌⊎◌, List, [], map, length, nat_lt, slice_index_or}
+use Rattle.std.specs.Prelude.{◌≡◌, ℕ, ◌+◌, Bool, true, false, cond, ◌⊎◌, List, [], map, length, nat_lt, slice_index_or, Ok, Err}
 use Rattle.quantity.specs.Measure.{Measure}
 use Rattle.book.specs.Calls.{everything}
 use Rattle.awards.specs.Sheets.{blank_view}
 use Rattle.day_calls.specs.declared.calls.DayCall.{DayCall}
 use Rattle.day_calls.specs.declared.calls.DayCall.TheVariants.{Open as OpenDay}
-use Rattle.day_calls.specs.declared.calls.Answer.{Answer}
-use Rattle.day_calls.specs.declared.calls.Answer.TheVariants.{Opened, Awarded, Placed, GatePassed, Held, Lacking, Standing, Refused, NotCalled as NotMade}
+use Rattle.day_calls.specs.declared.calls.Answer.TheVariants.{Opened, Awarded, Placed, GatePassed, Held, Lacking, Standing}
+use Rattle.day_calls.specs.declared.calls.NotDone.TheVariants.{NotCalled as NotMade}
 use Rattle.day_calls.specs.declared.calls.NotCalled.TheVariants.{NoSuchDay, NoMemory}
 use Rattle.day_calls.specs.declared.desk.Stage.TheVariants.{Unopened}
+use Rattle.day_calls.specs.Answers.{Outcome}
 use Rattle.day_calls.specs.Days.{DayState}
 use Rattle.laws.specs.Laws.{Entry, Performed, put_day}
 use Rattle.bureau.specs.declared.calls.Call.{Call}
@@ -29,16 +30,15 @@ pub record BureauState (Q R : Type 0) : Type 0 where
 abbrev pub bureau_of : {D Q R : Type 0} → Measure Q R → (D → DayState Q R) → List D → BureauState Q R
 bureau_of m state desks = record { days = λ d. slice_index_or (map state desks) d (absent_day m); count = length desks }
 
-abbrev pub is_opened : {Q : Type 0} → Answer Q → Bool
-is_opened Opened = true
-is_opened Awarded = false
-is_opened (Placed place) = false
-is_opened GatePassed = false
-is_opened (Held q) = false
-is_opened (Lacking x) = false
-is_opened (Standing status) = false
-is_opened (Refused refusal) = false
-is_opened (NotMade why) = false
+abbrev pub is_opened : {Q : Type 0} → Outcome Q → Bool
+is_opened (Ok Opened) = true
+is_opened (Ok Awarded) = false
+is_opened (Ok (Placed place)) = false
+is_opened (Ok GatePassed) = false
+is_opened (Ok (Held q)) = false
+is_opened (Ok (Lacking x)) = false
+is_opened (Ok (Standing status)) = false
+is_opened (Err why) = false
 
 -- the event of a call and its reply
 abbrev pub entry_of : {Q : Type 0} → Call Q → Reply Q → Entry Q
@@ -52,7 +52,7 @@ module _ {Q R : Type 0} (m : Measure Q R) (tenths : Q → ℕ → ℕ) (directio
     pub count_stays : after.count ≡ before.count
 
   -- a fresh day is opened at the next handle, or its opening is refused and it is not kept
-  pub record OpenedDay (before : BureauState Q R) (number quarters : ℕ) (answer : Answer Q) (after : BureauState Q R) : Type 0 where
+  pub record OpenedDay (before : BureauState Q R) (number quarters : ℕ) (answer : Outcome Q) (after : BureauState Q R) : Type 0 where
     pub supplied : DayState Q R
     pub opened : DayState Q R
     pub fresh : Fresh m supplied
@@ -61,22 +61,26 @@ module _ {Q R : Type 0} (m : Measure Q R) (tenths : Q → ℕ → ℕ) (directio
     pub count_is : after.count ≡ cond (is_opened answer) (before.count + 1) before.count
 
   -- a call is made of a day, and the other days stay
-  pub record OnDay (before : BureauState Q R) (day : ℕ) (call : DayCall Q) (answer : Answer Q) (after : BureauState Q R) : Type 0 where
+  pub record OnDay (before : BureauState Q R) (day : ℕ) (call : DayCall Q) (answer : Outcome Q) (after : BureauState Q R) : Type 0 where
     pub then : DayState Q R
     pub performed : Performed m tenths directions (before.days day) call answer then
     pub days_are : after.days ≡ put_day before.days day then
     pub count_stays : after.count ≡ before.count
 
   -- a call of a day that there is, or is not
-  abbrev pub Called : Bool → BureauState Q R → ℕ → DayCall Q → Answer Q → BureauState Q R → Type 0
+  abbrev pub Called : Bool → BureauState Q R → ℕ → DayCall Q → Outcome Q → BureauState Q R → Type 0
   Called true before day call answer after = OnDay before day call answer after
-  Called false before day call answer after = (answer ≡ NotMade NoSuchDay) × Unchanged before after
+  Called false before day call answer after = (answer ≡ Err (NotMade NoSuchDay)) × Unchanged before after
+
+  -- a day is opened or refused, or there is no memory for it
+  abbrev pub Opening : BureauState Q R → ℕ → ℕ → Outcome Q → BureauState Q R → Type 0
+  Opening before number quarters answer after = ((answer ≡ Err (NotMade NoMemory)) × Unchanged before after) ⊎ OpenedDay before number quarters answer after
 
   -- what one call of a bureau answers and changes: the defined thing, or nothing for want of memory or of such a day
   abbrev pub Stepped : BureauState Q R → Call Q → Reply Q → BureauState Q R → Type 0
   Stepped before (Open number quarters) reply after =
       (reply.day ≡ before.count)
-      × (((reply.answer ≡ NotMade NoMemory) × Unchanged before after) ⊎ OpenedDay before number quarters reply.answer after)
+      × Opening before number quarters reply.answer after
   Stepped before (On day call) reply after =
       (reply.day ≡ day)
       × Called (nat_lt day before.count) before day call reply.answer after

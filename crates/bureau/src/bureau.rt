@@ -1,14 +1,13 @@
-ghost use Rattle.std.specs.Prelude.{◌≡◌, min, List, [], ◌∷◌, length, take, drop, slice_set};
+ghost use Rattle.std.specs.Prelude.{◌≡◌, min, List, [], ◌∷◌, length, take, drop, nat_lt, slice_set};
 ghost use Rattle.day_calls.specs.Days.{state_of};
-ghost use Rattle.bureau.specs.Bureaus.{bureau_of, empty_bureau, is_opened, entry_of, Stepped};
+ghost use Rattle.bureau.specs.Bureaus.{bureau_of, empty_bureau, is_opened, entry_of, Called, Opening, Stepped};
 ghost use Rattle.bureau.specs.Runs.{paired, Ran};
 ghost use Rattle.laws.specs.Laws.{Entry, Laws};
-ghost use Rattle.bureau.specs.declared.calls.Call.TheVariants.{Open, On};
 
 use crate::calls::{Call, Reply};
 use crate::supply::Supply;
 use book::interface::Book;
-use day_calls::calls::{Answer, DayCall, NotCalled};
+use day_calls::calls::{Answer, DayCall, NotCalled, NotDone};
 use day_calls::desk::Desk;
 use desk::perform::perform_on;
 use quantity::interface::Quantity;
@@ -24,16 +23,13 @@ pub struct Bureau<O, B, L> {
 }
 
 // Whether a day was opened.
-fn is_opened<Q: Copy>(answer: Answer<Q>) -> bool
+fn is_opened<Q: Copy>(answer: Result<Answer<Q>, NotDone>) -> bool
     ensures { result ≡ is_opened answer }
 {
-    match answer {
-        Answer::Opened => true,
-        _ => false,
-    }
+    matches!(answer, Ok(Answer::Opened))
 }
 
-// Puts a reply at a place, if there is one.
+// Puts a reply at a place, if there is one: the test lets the check see that the place is within memory.
 fn put_reply<Q: Copy>(replies: &mut [Reply<Q>], place: usize, reply: Reply<Q>)
     ensures { replies.new ≡ slice_set replies.old place reply }
 {
@@ -60,74 +56,56 @@ where
     }
 
     // Makes a call of a day.
-    fn call_day(&mut self, day: usize, call: DayCall<O::Q>) -> Reply<O::Q>
-        ensures { Stepped O.Q.Quantity.measure O.Q.ReserveQuantity.tenths_in O.Q.ReserveQuantity.directions (bureau_of O.Q.Quantity.measure (state_of O.Book.holdings O.Book.places O.Book.admission B.Book.holdings L.Records.contents L.Records.places) self.old.desks.items) (On day call) result (bureau_of O.Q.Quantity.measure (state_of O.Book.holdings O.Book.places O.Book.admission B.Book.holdings L.Records.contents L.Records.places) self.new.desks.items) }
+    fn call_day(&mut self, day: usize, call: &DayCall<O::Q>) -> Result<Answer<O::Q>, NotDone>
+        ensures { Called O.Q.Quantity.measure O.Q.ReserveQuantity.tenths_in O.Q.ReserveQuantity.directions (nat_lt day (length self.old.desks.items)) (bureau_of O.Q.Quantity.measure (state_of O.Book.holdings O.Book.places O.Book.admission B.Book.holdings L.Records.contents L.Records.places) self.old.desks.items) day call.now result (bureau_of O.Q.Quantity.measure (state_of O.Book.holdings O.Book.places O.Book.admission B.Book.holdings L.Records.contents L.Records.places) self.new.desks.items) }
     {
         if day >= self.desks.len() {
-            return Reply {
-                day,
-                answer: Answer::NotCalled(NotCalled::NoSuchDay),
-            };
+            return Err(NotCalled::NoSuchDay.into());
         }
-        let answer = perform_on(&mut self.desks[day], call);
-        Reply { day, answer }
+        perform_on(&mut self.desks[day], call)
     }
 
     // Opens a new day.
     fn open_day<S: Supply<O, B, L>>(
         &mut self,
         supply: &S,
-        heap: Global,
         number: u8,
         quarters: u8,
-    ) -> Reply<O::Q>
-        ensures { Stepped O.Q.Quantity.measure O.Q.ReserveQuantity.tenths_in O.Q.ReserveQuantity.directions (bureau_of O.Q.Quantity.measure (state_of O.Book.holdings O.Book.places O.Book.admission B.Book.holdings L.Records.contents L.Records.places) self.old.desks.items) (Open number quarters) result (bureau_of O.Q.Quantity.measure (state_of O.Book.holdings O.Book.places O.Book.admission B.Book.holdings L.Records.contents L.Records.places) self.new.desks.items) }
+    ) -> Result<Answer<O::Q>, NotDone>
+        ensures { Opening O.Q.Quantity.measure O.Q.ReserveQuantity.tenths_in O.Q.ReserveQuantity.directions (bureau_of O.Q.Quantity.measure (state_of O.Book.holdings O.Book.places O.Book.admission B.Book.holdings L.Records.contents L.Records.places) self.old.desks.items) number quarters result (bureau_of O.Q.Quantity.measure (state_of O.Book.holdings O.Book.places O.Book.admission B.Book.holdings L.Records.contents L.Records.places) self.new.desks.items) }
     {
-        let day = self.desks.len();
-        let no_memory = Reply {
-            day,
-            answer: Answer::NotCalled(NotCalled::NoMemory),
-        };
-        if self.desks.reserve(1).is_err() {
-            return no_memory;
-        }
-        let Ok(mut desk) = supply.supply(heap) else {
-            return no_memory;
-        };
-        let answer = perform_on(&mut desk, DayCall::Open { number, quarters });
+        self.desks.reserve(1)?;
+        let mut desk = supply.supply(*self.desks.allocator())?;
+        let answer = perform_on(&mut desk, &DayCall::Open { number, quarters });
         if !is_opened(answer) {
-            return Reply { day, answer };
+            return answer;
         }
         self.desks.push_reserved(desk);
-        Reply { day, answer }
+        answer
     }
 
     // Makes any call.
-    fn make<S: Supply<O, B, L>>(
-        &mut self,
-        supply: &S,
-        heap: Global,
-        call: Call<O::Q>,
-    ) -> Reply<O::Q>
-        ensures { Stepped O.Q.Quantity.measure O.Q.ReserveQuantity.tenths_in O.Q.ReserveQuantity.directions (bureau_of O.Q.Quantity.measure (state_of O.Book.holdings O.Book.places O.Book.admission B.Book.holdings L.Records.contents L.Records.places) self.old.desks.items) call result (bureau_of O.Q.Quantity.measure (state_of O.Book.holdings O.Book.places O.Book.admission B.Book.holdings L.Records.contents L.Records.places) self.new.desks.items) }
+    fn make<S: Supply<O, B, L>>(&mut self, supply: &S, call: &Call<O::Q>) -> Reply<O::Q>
+        ensures { Stepped O.Q.Quantity.measure O.Q.ReserveQuantity.tenths_in O.Q.ReserveQuantity.directions (bureau_of O.Q.Quantity.measure (state_of O.Book.holdings O.Book.places O.Book.admission B.Book.holdings L.Records.contents L.Records.places) self.old.desks.items) call.now result (bureau_of O.Q.Quantity.measure (state_of O.Book.holdings O.Book.places O.Book.admission B.Book.holdings L.Records.contents L.Records.places) self.new.desks.items) }
     {
         match call {
-            Call::Open { number, quarters } => self.open_day(supply, heap, number, quarters),
-            Call::On { day, call } => self.call_day(day, call),
+            Call::Open { number, quarters } => Reply {
+                day: self.desks.len(),
+                answer: self.open_day(supply, *number, *quarters),
+            },
+            Call::On { day, call } => Reply {
+                day: *day,
+                answer: self.call_day(*day, call),
+            },
         }
     }
 
     /// Makes any call of the bureau. Whatever was called before, the law goes on to hold.
-    pub fn perform<S: Supply<O, B, L>>(
-        &mut self,
-        supply: &S,
-        heap: Global,
-        call: Call<O::Q>,
-    ) -> Reply<O::Q>
-        ensures stepped { Stepped O.Q.Quantity.measure O.Q.ReserveQuantity.tenths_in O.Q.ReserveQuantity.directions (bureau_of O.Q.Quantity.measure (state_of O.Book.holdings O.Book.places O.Book.admission B.Book.holdings L.Records.contents L.Records.places) self.old.desks.items) call result (bureau_of O.Q.Quantity.measure (state_of O.Book.holdings O.Book.places O.Book.admission B.Book.holdings L.Records.contents L.Records.places) self.new.desks.items) }
-        ensures law { (h : List (Entry O.Q)) → Laws O.Q.Quantity.measure O.Q.ReserveQuantity.tenths_in O.Q.ReserveQuantity.directions h (bureau_of O.Q.Quantity.measure (state_of O.Book.holdings O.Book.places O.Book.admission B.Book.holdings L.Records.contents L.Records.places) self.old.desks.items).days → Laws O.Q.Quantity.measure O.Q.ReserveQuantity.tenths_in O.Q.ReserveQuantity.directions (entry_of call result ∷ h) (bureau_of O.Q.Quantity.measure (state_of O.Book.holdings O.Book.places O.Book.admission B.Book.holdings L.Records.contents L.Records.places) self.new.desks.items).days }
+    pub fn perform<S: Supply<O, B, L>>(&mut self, supply: &S, call: &Call<O::Q>) -> Reply<O::Q>
+        ensures stepped { Stepped O.Q.Quantity.measure O.Q.ReserveQuantity.tenths_in O.Q.ReserveQuantity.directions (bureau_of O.Q.Quantity.measure (state_of O.Book.holdings O.Book.places O.Book.admission B.Book.holdings L.Records.contents L.Records.places) self.old.desks.items) call.now result (bureau_of O.Q.Quantity.measure (state_of O.Book.holdings O.Book.places O.Book.admission B.Book.holdings L.Records.contents L.Records.places) self.new.desks.items) }
+        ensures law { (h : List (Entry O.Q)) → Laws O.Q.Quantity.measure O.Q.ReserveQuantity.tenths_in O.Q.ReserveQuantity.directions h (bureau_of O.Q.Quantity.measure (state_of O.Book.holdings O.Book.places O.Book.admission B.Book.holdings L.Records.contents L.Records.places) self.old.desks.items).days → Laws O.Q.Quantity.measure O.Q.ReserveQuantity.tenths_in O.Q.ReserveQuantity.directions (entry_of call.now result ∷ h) (bureau_of O.Q.Quantity.measure (state_of O.Book.holdings O.Book.places O.Book.admission B.Book.holdings L.Records.contents L.Records.places) self.new.desks.items).days }
     {
-        self.make(supply, heap, call)
+        self.make(supply, call)
     }
 
     /// Makes the calls in their order, as many as there is room for replies, and tells how many.
@@ -135,7 +113,6 @@ where
     pub fn run<S: Supply<O, B, L>>(
         &mut self,
         supply: &S,
-        heap: Global,
         calls: &[Call<O::Q>],
         replies: &mut [Reply<O::Q>],
     ) -> usize
@@ -143,9 +120,10 @@ where
         ensures rest { drop result replies.new ≡ drop result replies.old }
         ensures ran { (h : List (Entry O.Q)) → Laws O.Q.Quantity.measure O.Q.ReserveQuantity.tenths_in O.Q.ReserveQuantity.directions h (bureau_of O.Q.Quantity.measure (state_of O.Book.holdings O.Book.places O.Book.admission B.Book.holdings L.Records.contents L.Records.places) self.old.desks.items).days → Ran O.Q.Quantity.measure O.Q.ReserveQuantity.tenths_in O.Q.ReserveQuantity.directions h (bureau_of O.Q.Quantity.measure (state_of O.Book.holdings O.Book.places O.Book.admission B.Book.holdings L.Records.contents L.Records.places) self.old.desks.items) (paired (take result calls.now) (take result replies.new) []) (bureau_of O.Q.Quantity.measure (state_of O.Book.holdings O.Book.places O.Book.admission B.Book.holdings L.Records.contents L.Records.places) self.new.desks.items) }
     {
+        // By an index: after a `zip` over `iter_mut` no proof knows the replies that were written.
         let n = calls.len().min(replies.len());
         for i in 0..n {
-            let reply = self.perform(supply, heap, calls[i]);
+            let reply = self.perform(supply, &calls[i]);
             put_reply(replies, i, reply);
         }
         n
@@ -163,7 +141,7 @@ where
         ensures ran { Ran O.Q.Quantity.measure O.Q.ReserveQuantity.tenths_in O.Q.ReserveQuantity.directions [] (empty_bureau O.Q.Quantity.measure) (paired (take result.1 calls.now) (take result.1 replies.new) []) (bureau_of O.Q.Quantity.measure (state_of O.Book.holdings O.Book.places O.Book.admission B.Book.holdings L.Records.contents L.Records.places) result.0.desks.items) }
     {
         let mut bureau = Bureau::new(heap);
-        let made = bureau.run(supply, heap, calls, replies);
+        let made = bureau.run(supply, calls, replies);
         (bureau, made)
     }
 }

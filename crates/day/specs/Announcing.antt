@@ -35,10 +35,10 @@ module _ {Q R : Type 0} (m : Measure Q R) (day : Day) (joining : Joining) (said 
   -- why an announcement is refused before the list is looked at
   abbrev pub outline : List (Option Refusal)
   outline =
-      no_provider said.giver
-      ∷ (no_provider said.taker
-      ∷ (no_span day said.first said.last
-      ∷ (when (said.giver == said.taker) SameProvider
+      no_provider said.passage.giver
+      ∷ (no_provider said.passage.taker
+      ∷ (no_span day said.passage.first said.passage.last
+      ∷ (when (said.passage.giver == said.passage.taker) SameProvider
       ∷ (when (is_zero m said.quantity) ZeroQuantity
       ∷ (when (int_lt said.minute day.minute) MinuteBeforeLast
       ∷ (when (not (int_lt said.minute (deadline_of joining))) TooLate ∷ []))))))
@@ -48,12 +48,12 @@ module _ {Q R : Type 0} (m : Measure Q R) (day : Day) (joining : Joining) (said 
 
   -- why an announcement is refused, if it is
   unfoldable pub announce_refusal : List (Request R) → ℕ → Option Refusal
-  announce_refusal xs places = first_some (outline ++ (announcement_refusal joining xs places said.giver said.taker said.first said.last ∷ []))
+  announce_refusal xs places = first_some (outline ++ (announcement_refusal joining xs places said.passage ∷ []))
 
   -- the list after an announcement
   unfoldable pub announced_list : List (Request R) → ℕ → List (Request R)
   announced_list xs places =
-      unless_refused outline_refusal (announcement_list m joining xs places said.side said.giver said.taker said.first said.last said.quantity) xs
+      unless_refused outline_refusal (announcement_list m joining xs places said.side said.passage said.quantity) xs
 
 -- the day with another last minute
 abbrev pub at_minute : Day → ℤ → Day

@@ -1,17 +1,15 @@
 ghost use Rattle.std.specs.Prelude.{◌≡◌, IfOk};
 ghost use Rattle.std.specs.Result.{result_err};
-ghost use Rattle.refusals.specs.Numbers.{answer_number};
 ghost use Rattle.requests.specs.Announcing.{announcement_place};
-ghost use Rattle.requests.specs.declared.finding.Joining.TheVariants.{Unresolved, NotBalanced};
 ghost use Rattle.day.specs.Announcing.{deadline_of, outline_refusal, announce_refusal, announced_list, announced_day};
 
-use crate::stages::{Announcing, Day, Reconciling};
+use crate::stages::{BeforeGate, Day, InStage};
 use quantity::interface::Quantity;
 use record_list::interface::Records;
 use refusals::refusal::Refusal;
 use requests::announcing::put_announcement;
 use requests::finding::Joining;
-use requests::request::{Request, Side};
+use requests::request::{Passage, Request, Side};
 
 /// The minute from which nothing is announced in the first stage: 13:30 on the day before.
 pub const ANNOUNCING_ENDS: i32 = -630;
@@ -19,14 +17,11 @@ pub const ANNOUNCING_ENDS: i32 = -630;
 /// The minute from which nothing is announced in the second stage: 14:00 on the day before.
 pub const RECONCILING_ENDS: i32 = -600;
 
-/// What a side says of a request: who gives whom how much over which quarters, and when it is said.
+/// What a side says of a request: how much passes from whom to whom over which quarters, and when it is said.
 #[derive(Clone, Copy)]
 pub struct Announcement<Q> {
     pub side: Side,
-    pub giver: u8,
-    pub taker: u8,
-    pub first: u8,
-    pub last: u8,
+    pub passage: Passage,
     pub quantity: Q,
     pub minute: i32,
 }
@@ -49,13 +44,14 @@ fn check_outline<Q: Quantity>(
 ) -> Result<(), Refusal>
     ensures { result_err result ≡ outline_refusal Q.Quantity.measure day joining said }
 {
-    if said.giver >= 32 || said.taker >= 32 {
+    let passage = said.passage;
+    if passage.giver >= 32 || passage.taker >= 32 {
         return Err(Refusal::NoSuchProvider);
     }
-    if said.first > said.last || said.last >= day.quarters {
+    if passage.first > passage.last || passage.last >= day.quarters {
         return Err(Refusal::NoSuchSpan);
     }
-    if said.giver == said.taker {
+    if passage.giver == passage.taker {
         return Err(Refusal::SameProvider);
     }
     if said.quantity.equals(Q::zero()) {
@@ -76,15 +72,15 @@ fn day_after<Q: Copy>(day: Day, said: Announcement<Q>, placed: &Result<usize, Re
 {
     match placed {
         Ok(_) => Day {
-            number: day.number,
-            quarters: day.quarters,
             minute: said.minute,
+            ..day
         },
         Err(_) => day,
     }
 }
 
 // Takes an announcement before a deadline.
+#[tactic(auto, using(refusals::proofs::Firsts::front_stops, refusals::proofs::Firsts::front_passes, refusals::proofs::Firsts::alone), unfolding(crate::specs::Announcing::announce_refusal, crate::specs::Announcing::announced_list))]
 fn announce_before<Q: Quantity, L: Records<Record = Request<Q::Row>>>(
     day: &mut Day,
     joining: Joining,
@@ -92,58 +88,31 @@ fn announce_before<Q: Quantity, L: Records<Record = Request<Q::Row>>>(
     said: Announcement<Q>,
 ) -> Result<usize, Refusal>
     ensures answer { result_err result ≡ announce_refusal Q.Quantity.measure day.old joining said (L.Records.contents requests.old) (L.Records.places requests.old) }
-    ensures place { IfOk result (λ p. p ≡ announcement_place joining (L.Records.contents requests.old) said.giver said.taker said.first said.last) }
+    ensures place { IfOk result (λ p. p ≡ announcement_place joining (L.Records.contents requests.old) said.passage) }
     ensures contents { L.Records.contents requests.new ≡ announced_list Q.Quantity.measure day.old joining said (L.Records.contents requests.old) (L.Records.places requests.old) }
     ensures places { L.Records.places requests.new ≡ L.Records.places requests.old }
     ensures day { day.new ≡ announced_day day.old said (result_err result) }
 {
-    if let Err(refusal) = check_outline(*day, joining, said) {
-        return Err(refusal);
-    }
-    let placed = put_announcement(
-        requests,
-        joining,
-        said.side,
-        said.giver,
-        said.taker,
-        said.first,
-        said.last,
-        said.quantity,
-    );
+    check_outline(*day, joining, said)?;
+    let placed = put_announcement(requests, joining, said.side, said.passage, said.quantity);
     *day = day_after(*day, said, &placed);
     placed
 }
 
-impl Announcing {
-    /// Takes an announcement: it joins the unresolved request of its giver, taker and span, or becomes a new one.
+impl<S: BeforeGate> InStage<S> {
+    /// Takes an announcement. In the first stage it joins the unresolved request of its giver, taker and span, or becomes a new one;
+    /// in the second it joins one whose two sides do not agree yet.
     pub fn announce<Q: Quantity, L: Records<Record = Request<Q::Row>>>(
         &mut self,
         requests: &mut L,
         said: Announcement<Q>,
     ) -> Result<usize, Refusal>
-        ensures answer { answer_number (result_err result) ≡ answer_number (announce_refusal Q.Quantity.measure self.old.day Unresolved said (L.Records.contents requests.old) (L.Records.places requests.old)) }
-        ensures place { IfOk result (λ p. p ≡ announcement_place Unresolved (L.Records.contents requests.old) said.giver said.taker said.first said.last) }
-        ensures contents { L.Records.contents requests.new ≡ announced_list Q.Quantity.measure self.old.day Unresolved said (L.Records.contents requests.old) (L.Records.places requests.old) }
+        ensures answer { result_err result ≡ announce_refusal Q.Quantity.measure self.old.day S.joining said (L.Records.contents requests.old) (L.Records.places requests.old) }
+        ensures place { IfOk result (λ p. p ≡ announcement_place S.joining (L.Records.contents requests.old) said.passage) }
+        ensures contents { L.Records.contents requests.new ≡ announced_list Q.Quantity.measure self.old.day S.joining said (L.Records.contents requests.old) (L.Records.places requests.old) }
         ensures places { L.Records.places requests.new ≡ L.Records.places requests.old }
         ensures day { self.new.day ≡ announced_day self.old.day said (result_err result) }
     {
-        announce_before(&mut self.day, Joining::Unresolved, requests, said)
-    }
-}
-
-impl Reconciling {
-    /// Takes an announcement that joins a request whose two sides do not agree yet.
-    pub fn announce<Q: Quantity, L: Records<Record = Request<Q::Row>>>(
-        &mut self,
-        requests: &mut L,
-        said: Announcement<Q>,
-    ) -> Result<usize, Refusal>
-        ensures answer { answer_number (result_err result) ≡ answer_number (announce_refusal Q.Quantity.measure self.old.day NotBalanced said (L.Records.contents requests.old) (L.Records.places requests.old)) }
-        ensures place { IfOk result (λ p. p ≡ announcement_place NotBalanced (L.Records.contents requests.old) said.giver said.taker said.first said.last) }
-        ensures contents { L.Records.contents requests.new ≡ announced_list Q.Quantity.measure self.old.day NotBalanced said (L.Records.contents requests.old) (L.Records.places requests.old) }
-        ensures places { L.Records.places requests.new ≡ L.Records.places requests.old }
-        ensures day { self.new.day ≡ announced_day self.old.day said (result_err result) }
-    {
-        announce_before(&mut self.day, Joining::NotBalanced, requests, said)
+        announce_before(&mut self.day, S::joining(), requests, said)
     }
 }

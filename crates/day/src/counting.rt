@@ -1,36 +1,30 @@
-ghost use Rattle.std.specs.Prelude.{◌≡◌, ◌<◌, ◌≤◌};
-ghost use Rattle.book.specs.Grid.{total, filled, taken};
+ghost use Rattle.std.specs.Prelude.{◌≡◌, ◌<◌, ◌≤◌, not};
+ghost use Rattle.quantity.specs.Measure.{is_zero};
+ghost use Rattle.std.specs.List.{count_by, range_with_len};
+ghost use Rattle.book.specs.Grid.{taken};
 
 use book::interface::Book;
 use quantity::interface::Quantity;
 
-// 0 for a zero holding, 1 for any other.
-fn count_one<B: Book>(book: &B, provider: u8, quarter: u8) -> usize
+// Whether a holding is not zero.
+fn is_held<B: Book>(book: &B, provider: u8, quarter: u8) -> bool
     requires { (provider < 32) × (quarter < 100) }
-    ensures value { result ≡ filled B.Q.Quantity.measure (B.Book.holdings book.now) provider quarter }
-    ensures bound { result ≤ 1 }
+    ensures { result ≡ not (is_zero B.Q.Quantity.measure (B.Book.holdings book.now provider quarter)) }
 {
-    if book
+    !book
         .holding(provider, quarter)
         .equals(<B::Q as Quantity>::zero())
-    {
-        0
-    } else {
-        1
-    }
 }
 
 // How many holdings of a provider are not zero.
 fn count_quarters<B: Book>(book: &B, provider: u8) -> usize
     requires { provider < 32 }
-    ensures value { result ≡ total (filled B.Q.Quantity.measure (B.Book.holdings book.now) provider) 100 }
+    ensures value { result ≡ count_by (λ t. not (is_zero B.Q.Quantity.measure (B.Book.holdings book.now provider t))) (range_with_len 0 100) }
     ensures bound { result ≤ 100 }
 {
-    let mut count = 0;
-    for quarter in 0..100u8 {
-        count += count_one(book, provider, quarter);
-    }
-    count
+    (0..100u8)
+        .filter(|&quarter| is_held(book, provider, quarter))
+        .count()
 }
 
 /// How many holdings of a book are not zero.

@@ -1,15 +1,13 @@
 ghost use Rattle.std.specs.Prelude.{◌≡◌, MatchResult, OnOk};
 ghost use Rattle.std.specs.Result.{result_err};
 ghost use Rattle.book.specs.Grid.{amounts};
-ghost use Rattle.refusals.specs.Numbers.{answer_number};
 ghost use Rattle.refusals.specs.First.{unless_refused};
-ghost use Rattle.gates.specs.declared.gate.Gate.TheVariants.{First, Second};
 ghost use Rattle.gates.specs.Gates.{after_moves, gated, Judged};
 ghost use Rattle.day.specs.Announcing.{at_minute};
 ghost use Rattle.day.specs.Gating.{opens_at, gate_refusal, refusal_in};
 
 use crate::announcing::{ANNOUNCING_ENDS, RECONCILING_ENDS};
-use crate::stages::{Announcing, Day, Intraday, Reconciling};
+use crate::stages::{BeforeGate, Day, InStage};
 use book::interface::Book;
 use gates::gate::Gate;
 use gates::passing::pass_gate;
@@ -41,88 +39,30 @@ fn check_gate(day: Day, later: Day, gate: Gate) -> Result<(), Refusal>
     Ok(())
 }
 
-// Opens a gate where its time has come.
-fn open_gate<O: Book, L: Records<Record = Request<<O::Q as Quantity>::Row>>>(
-    day: Day,
-    later: Day,
-    gate: Gate,
-    obligations: &mut O,
-    requests: &mut L,
-) -> Result<(), Refusal>
-    ensures answer { result_err result ≡ gate_refusal gate day later.minute }
-    ensures requests { (L.Records.contents requests.new) ≡ unless_refused (gate_refusal gate day later.minute) (gated O.Q.Quantity.measure (O.Book.places obligations.old) (O.Book.admission obligations.old) gate (O.Book.holdings obligations.old) (L.Records.contents requests.old)) (L.Records.contents requests.old) }
-    ensures after { amounts O.Q.Quantity.measure (O.Book.holdings obligations.new) ≡ unless_refused (gate_refusal gate day later.minute) (amounts O.Q.Quantity.measure (after_moves O.Q.Quantity.measure (O.Book.places obligations.old) (O.Book.admission obligations.old) (O.Book.holdings obligations.old) (L.Records.contents requests.old))) (amounts O.Q.Quantity.measure (O.Book.holdings obligations.old)) }
-    ensures judged { OnOk result (Judged O.Q.Quantity.measure (O.Book.places obligations.old) (O.Book.admission obligations.old) gate (O.Book.holdings obligations.old) (L.Records.contents requests.old) (L.Records.contents requests.new)) }
-    ensures places { O.Book.places obligations.new ≡ O.Book.places obligations.old }
-    ensures admission { O.Book.admission obligations.new ≡ O.Book.admission obligations.old }
-    ensures layer { O.Book.layer_number obligations.new ≡ O.Book.layer_number obligations.old }
-    ensures room { L.Records.places requests.new ≡ L.Records.places requests.old }
-{
-    if let Err(refusal) = check_gate(day, later, gate) {
-        return Err(refusal);
-    }
-    pass_gate(obligations, requests, gate);
-    Ok(())
-}
-
-impl Announcing {
-    /// Takes the balanced requests in list order and goes on to the second stage.
+impl<S: BeforeGate> InStage<S> {
+    /// Takes the balanced requests in list order, rejects every other unresolved one where the gate is the second, and goes on to the next stage.
     /// The stage is handed back with the refusal where the gate does not open.
-    pub fn first_gate<O: Book, L: Records<Record = Request<<O::Q as Quantity>::Row>>>(
+    pub fn pass_gate<O: Book, L: Records<Record = Request<<O::Q as Quantity>::Row>>>(
         self,
         obligations: &mut O,
         requests: &mut L,
         minute: i32,
-    ) -> Result<Reconciling, (Announcing, Refusal)>
-        ensures answer { answer_number (refusal_in result) ≡ answer_number (gate_refusal First self.day minute) }
+    ) -> Result<InStage<S::Next>, (InStage<S>, Refusal)>
+        ensures answer { refusal_in result ≡ gate_refusal S.gate self.day minute }
         ensures day { MatchResult result (λ next. next.day ≡ at_minute self.day minute) (λ back. back.0.day ≡ self.day) }
-        ensures requests { (L.Records.contents requests.new) ≡ unless_refused (gate_refusal First self.day minute) (gated O.Q.Quantity.measure (O.Book.places obligations.old) (O.Book.admission obligations.old) First (O.Book.holdings obligations.old) (L.Records.contents requests.old)) (L.Records.contents requests.old) }
-        ensures after { amounts O.Q.Quantity.measure (O.Book.holdings obligations.new) ≡ unless_refused (gate_refusal First self.day minute) (amounts O.Q.Quantity.measure (after_moves O.Q.Quantity.measure (O.Book.places obligations.old) (O.Book.admission obligations.old) (O.Book.holdings obligations.old) (L.Records.contents requests.old))) (amounts O.Q.Quantity.measure (O.Book.holdings obligations.old)) }
-        ensures judged { OnOk result (Judged O.Q.Quantity.measure (O.Book.places obligations.old) (O.Book.admission obligations.old) First (O.Book.holdings obligations.old) (L.Records.contents requests.old) (L.Records.contents requests.new)) }
+        ensures requests { (L.Records.contents requests.new) ≡ unless_refused (gate_refusal S.gate self.day minute) (gated O.Q.Quantity.measure (O.Book.places obligations.old) (O.Book.admission obligations.old) S.gate (O.Book.holdings obligations.old) (L.Records.contents requests.old)) (L.Records.contents requests.old) }
+        ensures after { amounts O.Q.Quantity.measure (O.Book.holdings obligations.new) ≡ unless_refused (gate_refusal S.gate self.day minute) (amounts O.Q.Quantity.measure (after_moves O.Q.Quantity.measure (O.Book.places obligations.old) (O.Book.admission obligations.old) (O.Book.holdings obligations.old) (L.Records.contents requests.old))) (amounts O.Q.Quantity.measure (O.Book.holdings obligations.old)) }
+        ensures judged { OnOk result (Judged O.Q.Quantity.measure (O.Book.places obligations.old) (O.Book.admission obligations.old) S.gate (O.Book.holdings obligations.old) (L.Records.contents requests.old) (L.Records.contents requests.new)) }
         ensures places { O.Book.places obligations.new ≡ O.Book.places obligations.old }
         ensures admission { O.Book.admission obligations.new ≡ O.Book.admission obligations.old }
         ensures layer { O.Book.layer_number obligations.new ≡ O.Book.layer_number obligations.old }
         ensures room { L.Records.places requests.new ≡ L.Records.places requests.old }
     {
-        let later = Day {
-            number: self.day.number,
-            quarters: self.day.quarters,
-            minute,
-        };
-        match open_gate(self.day, later, Gate::First, obligations, requests) {
-            Ok(()) => Ok(Reconciling { day: later }),
-            Err(refusal) => Err((self, refusal)),
+        let later = Day { minute, ..self.day };
+        if let Err(refusal) = check_gate(self.day, later, S::gate()) {
+            return Err((self, refusal));
         }
-    }
-}
-
-impl Reconciling {
-    /// Takes the balanced requests in list order, rejects every other unresolved one, and goes on to the third stage.
-    /// The stage is handed back with the refusal where the gate does not open.
-    pub fn second_gate<O: Book, L: Records<Record = Request<<O::Q as Quantity>::Row>>>(
-        self,
-        obligations: &mut O,
-        requests: &mut L,
-        minute: i32,
-    ) -> Result<Intraday, (Reconciling, Refusal)>
-        ensures answer { answer_number (refusal_in result) ≡ answer_number (gate_refusal Second self.day minute) }
-        ensures day { MatchResult result (λ next. next.day ≡ at_minute self.day minute) (λ back. back.0.day ≡ self.day) }
-        ensures requests { (L.Records.contents requests.new) ≡ unless_refused (gate_refusal Second self.day minute) (gated O.Q.Quantity.measure (O.Book.places obligations.old) (O.Book.admission obligations.old) Second (O.Book.holdings obligations.old) (L.Records.contents requests.old)) (L.Records.contents requests.old) }
-        ensures after { amounts O.Q.Quantity.measure (O.Book.holdings obligations.new) ≡ unless_refused (gate_refusal Second self.day minute) (amounts O.Q.Quantity.measure (after_moves O.Q.Quantity.measure (O.Book.places obligations.old) (O.Book.admission obligations.old) (O.Book.holdings obligations.old) (L.Records.contents requests.old))) (amounts O.Q.Quantity.measure (O.Book.holdings obligations.old)) }
-        ensures judged { OnOk result (Judged O.Q.Quantity.measure (O.Book.places obligations.old) (O.Book.admission obligations.old) Second (O.Book.holdings obligations.old) (L.Records.contents requests.old) (L.Records.contents requests.new)) }
-        ensures places { O.Book.places obligations.new ≡ O.Book.places obligations.old }
-        ensures admission { O.Book.admission obligations.new ≡ O.Book.admission obligations.old }
-        ensures layer { O.Book.layer_number obligations.new ≡ O.Book.layer_number obligations.old }
-        ensures room { L.Records.places requests.new ≡ L.Records.places requests.old }
-    {
-        let later = Day {
-            number: self.day.number,
-            quarters: self.day.quarters,
-            minute,
-        };
-        match open_gate(self.day, later, Gate::Second, obligations, requests) {
-            Ok(()) => Ok(Intraday { day: later }),
-            Err(refusal) => Err((self, refusal)),
-        }
+        pass_gate(obligations, requests, S::gate());
+        Ok(InStage::of(later))
     }
 }

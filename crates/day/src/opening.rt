@@ -1,6 +1,5 @@
 ghost use Rattle.std.specs.Prelude.{◌≡◌, IfOk};
 ghost use Rattle.std.specs.Result.{result_err};
-ghost use Rattle.refusals.specs.Numbers.{answer_number};
 ghost use Rattle.refusals.specs.First.{unless_refused};
 ghost use Rattle.awards.specs.Sheets.{view, blank_view};
 ghost use Rattle.day.specs.Opening.{nothing_held, opening_refusal, opened_day};
@@ -34,11 +33,11 @@ impl Announcing {
         requests: &L,
         sheet: &mut Sheet,
     ) -> Result<Announcing, Refusal>
-        ensures answer { answer_number (result_err result) ≡ answer_number (opening_refusal O.Q.Quantity.measure number quarters (O.Book.holdings obligations.now) (B.Book.holdings bids.now) (L.Records.contents requests.now)) }
+        ensures answer { result_err result ≡ opening_refusal O.Q.Quantity.measure number quarters (O.Book.holdings obligations.now) (B.Book.holdings bids.now) (L.Records.contents requests.now) }
         ensures day { IfOk result (λ s. s.day ≡ opened_day number quarters) }
         ensures sheet { view sheet.new ≡ unless_refused (result_err result) blank_view (view sheet.old) }
     {
-        if quarters != 92 && quarters != 96 && quarters != 100 {
+        if !matches!(quarters, 92 | 96 | 100) {
             return Err(Refusal::NoSuchDayLength);
         }
         if number < 1 || number > 31 {
@@ -48,12 +47,10 @@ impl Announcing {
             return Err(Refusal::NotEmpty);
         }
         *sheet = Sheet::blank();
-        Ok(Announcing {
-            day: Day {
-                number,
-                quarters,
-                minute: i32::MIN,
-            },
-        })
+        Ok(Announcing::of(Day {
+            number,
+            quarters,
+            minute: i32::MIN,
+        }))
     }
 }

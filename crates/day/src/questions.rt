@@ -3,11 +3,10 @@ ghost use Rattle.std.specs.Result.{result_err};
 ghost use Rattle.std.specs.List.{slice_get};
 ghost use Rattle.quantity.specs.Directions.{number as direction-number};
 ghost use Rattle.book.specs.Calls.{held_at};
-ghost use Rattle.refusals.specs.Numbers.{answer_number};
 ghost use Rattle.awards.specs.Sheets.{view};
 ghost use Rattle.day.specs.Questions.{question_refusal, lacking, status_refusal, status_of};
 
-use crate::stages::{Announcing, Day, Intraday, Reconciling};
+use crate::stages::Day;
 use awards::sheet::Sheet;
 use book::interface::Book;
 use quantity::direction::Direction;
@@ -22,30 +21,6 @@ use requests::request::{Request, Status};
 pub struct Missing {
     pub up: u16,
     pub down: u16,
-}
-
-impl Announcing {
-    pub fn day(&self) -> Day
-        ensures { result ≡ self.now.day }
-    {
-        self.day
-    }
-}
-
-impl Reconciling {
-    pub fn day(&self) -> Day
-        ensures { result ≡ self.now.day }
-    {
-        self.day
-    }
-}
-
-impl Intraday {
-    pub fn day(&self) -> Day
-        ensures { result ≡ self.now.day }
-    {
-        self.day
-    }
 }
 
 // A provider, and a quarter of the day.
@@ -68,12 +43,10 @@ pub fn holding_of<O: Book>(
     provider: u8,
     quarter: u8,
 ) -> Result<O::Q, Refusal>
-    ensures answer { answer_number (result_err result) ≡ answer_number (question_refusal day provider quarter) }
+    ensures answer { result_err result ≡ question_refusal day provider quarter }
     ensures value { IfOk result (λ q. q ≡ held_at O.Q.Quantity.measure (O.Book.holdings obligations.now) provider quarter) }
 {
-    if let Err(refusal) = check_question(day, provider, quarter) {
-        return Err(refusal);
-    }
+    check_question(day, provider, quarter)?;
     Ok(obligations.holding(provider, quarter))
 }
 
@@ -98,13 +71,11 @@ pub fn missing_volume<O: Book, B: Book<Q = O::Q>>(
 ) -> Result<Missing, Refusal>
 where
     O::Q: ReserveQuantity,
-    ensures answer { answer_number (result_err result) ≡ answer_number (question_refusal day provider quarter) }
+    ensures answer { result_err result ≡ question_refusal day provider quarter }
     ensures up { IfOk result (λ x. x.up ≡ lacking ((view sheet.now).exempt provider quarter) (O.Q.ReserveQuantity.tenths_in (held_at O.Q.Quantity.measure (O.Book.holdings obligations.now) provider quarter) 0) (O.Q.ReserveQuantity.tenths_in (held_at O.Q.Quantity.measure (B.Book.holdings bids.now) provider quarter) 0)) }
     ensures down { IfOk result (λ x. x.down ≡ lacking ((view sheet.now).exempt provider quarter) (O.Q.ReserveQuantity.tenths_in (held_at O.Q.Quantity.measure (O.Book.holdings obligations.now) provider quarter) 1) (O.Q.ReserveQuantity.tenths_in (held_at O.Q.Quantity.measure (B.Book.holdings bids.now) provider quarter) 1)) }
 {
-    if let Err(refusal) = check_question(day, provider, quarter) {
-        return Err(refusal);
-    }
+    check_question(day, provider, quarter)?;
     let held = obligations.holding(provider, quarter);
     let bid = bids.holding(provider, quarter);
     let exempt = sheet.is_exempt(provider, quarter);
@@ -119,7 +90,7 @@ pub fn request_status<R: Copy, L: Records<Record = Request<R>>>(
     requests: &L,
     place: usize,
 ) -> Result<Status, Refusal>
-    ensures answer { answer_number (result_err result) ≡ answer_number (status_refusal (slice_get (L.Records.contents requests.now) place)) }
+    ensures answer { result_err result ≡ status_refusal (slice_get (L.Records.contents requests.now) place) }
     ensures value { IfOk result (λ s. s ≡ status_of (slice_get (L.Records.contents requests.now) place)) }
 {
     match requests.at(place) {

@@ -1,3 +1,13 @@
+ghost use Rattle.std.specs.Prelude.{◌≡◌};
+ghost use Rattle.gates.specs.declared.gate.Gate.{Gate};
+ghost use Rattle.gates.specs.declared.gate.Gate.TheVariants.{First, Second};
+ghost use Rattle.requests.specs.declared.finding.Joining.{Joining};
+ghost use Rattle.requests.specs.declared.finding.Joining.TheVariants.{Unresolved, NotBalanced};
+
+use gates::gate::Gate;
+use requests::finding::Joining;
+use std::marker::PhantomData;
+
 /// The plain numbers of a day: its number, how many quarters it has, and the last minute that it took.
 #[derive(Clone, Copy, PartialEq, Eq, Debug)]
 pub struct Day {
@@ -6,20 +16,96 @@ pub struct Day {
     pub minute: i32,
 }
 
-/// The first stage: awards, announcements, the first gate.
+/// A day in its stage `S`. It is moved on, so that a stage that has passed is gone.
 #[derive(Drop)]
-pub struct Announcing {
+pub struct InStage<S> {
     pub(crate) day: Day,
+    pub(crate) stage: PhantomData<S>,
 }
+
+/// The first stage: awards, announcements, the first gate.
+pub struct FirstStage;
 
 /// The second stage: announcements that mend what does not balance, the second gate.
-#[derive(Drop)]
-pub struct Reconciling {
-    pub(crate) day: Day,
-}
+pub struct SecondStage;
 
 /// The third stage, after the second gate.
-#[derive(Drop)]
-pub struct Intraday {
-    pub(crate) day: Day,
+pub struct ThirdStage;
+
+/// A day in its first stage.
+pub type Announcing = InStage<FirstStage>;
+
+/// A day in its second stage.
+pub type Reconciling = InStage<SecondStage>;
+
+/// A day in its third stage.
+pub type Intraday = InStage<ThirdStage>;
+
+/// A stage that a gate ends.
+pub trait BeforeGate {
+    /// The stage after the gate.
+    type Next;
+
+    ghost joining: { Joining };
+
+    ghost gate: { Gate };
+
+    /// Which requests an announcement may join.
+    fn joining() -> Joining
+        ensures { result ≡ joining };
+
+    /// The gate that ends the stage.
+    fn gate() -> Gate
+        ensures { result ≡ gate };
+}
+
+impl BeforeGate for FirstStage {
+    type Next = SecondStage;
+
+    ghost joining = { Unresolved };
+
+    ghost gate = { First };
+
+    fn joining() -> Joining {
+        Joining::Unresolved
+    }
+
+    fn gate() -> Gate {
+        Gate::First
+    }
+}
+
+impl BeforeGate for SecondStage {
+    type Next = ThirdStage;
+
+    ghost joining = { NotBalanced };
+
+    ghost gate = { Second };
+
+    fn joining() -> Joining {
+        Joining::NotBalanced
+    }
+
+    fn gate() -> Gate {
+        Gate::Second
+    }
+}
+
+impl<S> InStage<S> {
+    // A day in a stage.
+    pub(crate) fn of(day: Day) -> InStage<S>
+        ensures { result.day ≡ day }
+    {
+        InStage {
+            day,
+            stage: PhantomData,
+        }
+    }
+
+    /// The plain numbers of the day.
+    pub fn day(&self) -> Day
+        ensures { result ≡ self.now.day }
+    {
+        self.day
+    }
 }

@@ -1,5 +1,5 @@
 -- What a day means, and what each call answers and makes of it.
-use Rattle.std.specs.Prelude.{ℕ, List, [], ◌∷◌, take, Option}
+use Rattle.std.specs.Prelude.{ℕ, List, [], ◌∷◌, Option}
 use Rattle.std.specs.List.{slice_get}
 use Rattle.quantity.specs.Measure.{Measure}
 use Rattle.book.specs.Grid.{Grid, amounts}
@@ -12,6 +12,7 @@ use Rattle.requests.specs.declared.finding.Joining.{Joining}
 use Rattle.requests.specs.declared.finding.Joining.TheVariants.{Unresolved, NotBalanced}
 use Rattle.requests.specs.Announcing.{announcement_place}
 use Rattle.requests.specs.Numbers.{status_number}
+use Rattle.awards.specs.declared.awarded.Award.{Award}
 use Rattle.awards.specs.Sheets.{SheetView, view, blank_view}
 use Rattle.awards.specs.Awards.{award_refusal, award_after, award_sheet}
 use Rattle.gates.specs.declared.gate.Gate.{Gate}
@@ -23,17 +24,12 @@ use Rattle.day.specs.Announcing.{at_minute, announce_refusal, announced_list, an
 use Rattle.day.specs.Opening.{opening_refusal, opened_day}
 use Rattle.day.specs.Questions.{question_refusal, lacking, status_refusal, status_of}
 use Rattle.day.specs.Gating.{gate_refusal}
-use Rattle.day_calls.specs.declared.calls.Prices.{Prices}
 use Rattle.day_calls.specs.declared.calls.DayCall.{DayCall}
-use Rattle.day_calls.specs.declared.calls.DayCall.TheVariants.{Open, Award, Announce, Gate as GateCall, Holding, Missing, Status}
+use Rattle.day_calls.specs.declared.calls.DayCall.TheVariants.{Open, Award as AwardCall, Announce, Gate as GateCall, Holding, Missing, Status}
 use Rattle.day_calls.specs.declared.desk.Desk.{Desk}
 use Rattle.day_calls.specs.declared.desk.Stage.{Stage}
 use Rattle.day_calls.specs.declared.desk.Stage.TheVariants.{Unopened, Announcing as InAnnouncing, Reconciling as InReconciling, Intraday as InIntraday}
 use Rattle.day_calls.specs.Answers.{Said, numbered, quantified, unless, not_in_stage}
-
--- the prices of a call, as a list
-abbrev pub price_list : Prices → List ℕ
-price_list prices = take prices.count prices.values
 
 -- by stages: before the opening, in the first stage, before a gate, once opened; else the last argument
 abbrev pub if_unopened : {A : Type 0} → Stage → A → A → A
@@ -67,12 +63,12 @@ joining_before Second = NotBalanced
 
 -- the same stage on a day that has taken another minute, and the stage after a gate
 abbrev pub same_stage : Gate → Day → Stage
-same_stage First day = InAnnouncing (record { day = day })
-same_stage Second day = InReconciling (record { day = day })
+same_stage First day = InAnnouncing (record { day = day; stage = record {} })
+same_stage Second day = InReconciling (record { day = day; stage = record {} })
 
 abbrev pub next_stage : Gate → Day → Stage
-next_stage First day = InReconciling (record { day = day })
-next_stage Second day = InIntraday (record { day = day })
+next_stage First day = InReconciling (record { day = day; stage = record {} })
+next_stage Second day = InIntraday (record { day = day; stage = record {} })
 
 -- a day: its stage, obligations with places and admission, bids, requests with the places lent, and sheet
 pub record DayState (Q R : Type 0) : Type 0 where
@@ -94,8 +90,8 @@ module _ {Q R : Type 0} (m : Measure Q R) (tenths : Q → ℕ → ℕ) (directio
   abbrev pub open_refused : ℕ → ℕ → Option Refusal
   open_refused number quarters = opening_refusal m number quarters s.held s.bids s.requests
 
-  abbrev pub award_refused : Day → ℕ → ℕ → Q → Prices → Option Refusal
-  award_refused day provider block q prices = award_refusal m s.held s.places s.admission directions day.quarters s.sheet.awards provider block q (price_list prices)
+  abbrev pub award_refused : Day → Award Q → List ℕ → Option Refusal
+  award_refused day a prices = award_refusal m s.held s.places s.admission directions day.quarters s.sheet.awards a.provider a.block a.quantity prices
 
   abbrev pub announce_refused : Gate → Day → Announcement Q → Option Refusal
   announce_refused gate day a = announce_refusal m day (joining_before gate) a s.requests s.room
@@ -107,9 +103,9 @@ module _ {Q R : Type 0} (m : Measure Q R) (tenths : Q → ℕ → ℕ) (directio
   -- what a call answers
   unfoldable pub answered : DayCall Q → Said Q
   answered (Open number quarters) = if_unopened s.stage (unless (open_refused number quarters) (numbered (0 ∷ (1 ∷ [])))) not_in_stage
-  answered (Award provider block q prices) = in_first s.stage (λ day. unless (award_refused day provider block q prices) (numbered (0 ∷ (2 ∷ [])))) not_in_stage
+  answered (AwardCall a prices) = in_first s.stage (λ day. unless (award_refused day a prices.now) (numbered (0 ∷ (2 ∷ [])))) not_in_stage
   answered (Announce a) =
-      before_gate s.stage (λ gate day. unless (announce_refused gate day a) (numbered (0 ∷ (3 ∷ (announcement_place (joining_before gate) s.requests a.giver a.taker a.first a.last ∷ []))))) not_in_stage
+      before_gate s.stage (λ gate day. unless (announce_refused gate day a) (numbered (0 ∷ (3 ∷ (announcement_place (joining_before gate) s.requests a.passage ∷ []))))) not_in_stage
   answered (GateCall minute) = before_gate s.stage (λ gate day. unless (gate_refusal gate day minute) (numbered (0 ∷ (4 ∷ [])))) not_in_stage
   answered (Holding p t) = once_opened s.stage (λ day. unless (question_refusal day p t) (quantified (0 ∷ (5 ∷ [])) (held_at m s.held p t))) not_in_stage
   answered (Missing p t) = once_opened s.stage (λ day. unless (question_refusal day p t) (numbered (0 ∷ (6 ∷ (missing_tenths_in p t 0 ∷ (missing_tenths_in p t 1 ∷ [])))))) not_in_stage
@@ -118,7 +114,7 @@ module _ {Q R : Type 0} (m : Measure Q R) (tenths : Q → ℕ → ℕ) (directio
   -- the stage after a call
   unfoldable pub stage_after : DayCall Q → Stage
   stage_after (Open number quarters) = if_unopened s.stage (unless_refused (open_refused number quarters) (same_stage First (opened_day number quarters)) s.stage) s.stage
-  stage_after (Award provider block q prices) = s.stage
+  stage_after (AwardCall a prices) = s.stage
   stage_after (Announce a) = before_gate s.stage (λ gate day. same_stage gate (announced_day day a (announce_refused gate day a))) s.stage
   stage_after (GateCall minute) = before_gate s.stage (λ gate day. unless_refused (gate_refusal gate day minute) (next_stage gate (at_minute day minute)) s.stage) s.stage
   stage_after (Holding p t) = s.stage
@@ -128,8 +124,8 @@ module _ {Q R : Type 0} (m : Measure Q R) (tenths : Q → ℕ → ℕ) (directio
   -- the amounts of the obligations after a call
   unfoldable pub held_after : DayCall Q → Grid m.Amount
   held_after (Open number quarters) = amounts m s.held
-  held_after (Award provider block q prices) =
-      in_first s.stage (λ day. award_after m s.held s.places s.admission directions day.quarters s.sheet.awards provider block q (price_list prices)) (amounts m s.held)
+  held_after (AwardCall a prices) =
+      in_first s.stage (λ day. award_after m s.held s.places s.admission directions day.quarters s.sheet.awards a.provider a.block a.quantity prices.now) (amounts m s.held)
   held_after (Announce a) = amounts m s.held
   held_after (GateCall minute) = before_gate s.stage (λ gate day. unless_refused (gate_refusal gate day minute) (amounts m (after_moves m s.places s.admission s.held s.requests)) (amounts m s.held)) (amounts m s.held)
   held_after (Holding p t) = amounts m s.held
@@ -139,7 +135,7 @@ module _ {Q R : Type 0} (m : Measure Q R) (tenths : Q → ℕ → ℕ) (directio
   -- the requests after a call
   unfoldable pub requests_after : DayCall Q → List (Request R)
   requests_after (Open number quarters) = s.requests
-  requests_after (Award provider block q prices) = s.requests
+  requests_after (AwardCall a prices) = s.requests
   requests_after (Announce a) = before_gate s.stage (λ gate day. announced_list m day (joining_before gate) a s.requests s.room) s.requests
   requests_after (GateCall minute) = before_gate s.stage (λ gate day. unless_refused (gate_refusal gate day minute) (gated m s.places s.admission gate s.held s.requests) s.requests) s.requests
   requests_after (Holding p t) = s.requests
@@ -149,8 +145,8 @@ module _ {Q R : Type 0} (m : Measure Q R) (tenths : Q → ℕ → ℕ) (directio
   -- the sheet after a call
   unfoldable pub sheet_after : DayCall Q → SheetView
   sheet_after (Open number quarters) = if_unopened s.stage (unless_refused (open_refused number quarters) blank_view s.sheet) s.sheet
-  sheet_after (Award provider block q prices) =
-      in_first s.stage (λ day. award_sheet m s.held s.places s.admission tenths directions day.quarters provider block q (price_list prices) s.sheet) s.sheet
+  sheet_after (AwardCall a prices) =
+      in_first s.stage (λ day. award_sheet m s.held s.places s.admission tenths directions day.quarters a.provider a.block a.quantity prices.now s.sheet) s.sheet
   sheet_after (Announce a) = s.sheet
   sheet_after (GateCall minute) = s.sheet
   sheet_after (Holding p t) = s.sheet

@@ -1,47 +1,26 @@
+ghost use Rattle.std.specs.Prelude.{◌≡◌};
+ghost use Rattle.day_calls.specs.declared.calls.NotCalled.TheVariants.{NoMemory};
+ghost use Rattle.day_calls.specs.declared.calls.NotDone.TheVariants.{Refused, NotCalled as NotMade};
+
+use awards::awarded::Award;
 use day::announcing::Announcement;
 use day::questions::Missing;
 use refusals::refusal::Refusal;
 use requests::request::Status;
-
-/// How many prices a call can hold: one more than any call takes.
-pub const MOST_PRICES: usize = 13;
-
-/// The prices of a call in their order: the first `count`, or all where `count` is larger.
-#[derive(Clone, Copy)]
-pub struct Prices {
-    pub values: [u32; 13],
-    pub count: usize,
-}
+use std::alloc::AllocError;
 
 /// A call of one day.
 #[derive(Clone, Copy)]
-pub enum DayCall<Q> {
-    Open {
-        number: u8,
-        quarters: u8,
-    },
-    Award {
-        provider: u8,
-        block: u8,
-        quantity: Q,
-        prices: Prices,
-    },
+pub enum DayCall<'a, Q> {
+    Open { number: u8, quarters: u8 },
+    /// An award at a price for each direction.
+    Award { award: Award<Q>, prices: &'a [u32] },
     Announce(Announcement<Q>),
     /// The first gate in the first stage, the second in the second.
-    Gate {
-        minute: i32,
-    },
-    Holding {
-        provider: u8,
-        quarter: u8,
-    },
-    Missing {
-        provider: u8,
-        quarter: u8,
-    },
-    Status {
-        place: usize,
-    },
+    Gate { minute: i32 },
+    Holding { provider: u8, quarter: u8 },
+    Missing { provider: u8, quarter: u8 },
+    Status { place: usize },
 }
 
 /// Why a call was not made. This is no refusal: nothing was asked of a day.
@@ -52,7 +31,7 @@ pub enum NotCalled {
     NoMemory,
 }
 
-/// What a call of a day answers.
+/// What a call of a day answers where it is taken.
 #[derive(Clone, Copy)]
 pub enum Answer<Q> {
     Opened,
@@ -63,6 +42,35 @@ pub enum Answer<Q> {
     Held(Q),
     Lacking(Missing),
     Standing(Status),
+}
+
+/// Why a call changes nothing.
+#[derive(Clone, Copy, PartialEq, Eq, Debug)]
+pub enum NotDone {
     Refused(Refusal),
     NotCalled(NotCalled),
+}
+
+impl From<Refusal> for NotDone {
+    ghost from_gives = { λ refusal e. e ≡ Refused refusal };
+
+    fn from(refusal: Refusal) -> NotDone {
+        NotDone::Refused(refusal)
+    }
+}
+
+impl From<AllocError> for NotDone {
+    ghost from_gives = { λ _ e. e ≡ NotMade NoMemory };
+
+    fn from(_: AllocError) -> NotDone {
+        NotDone::NotCalled(NotCalled::NoMemory)
+    }
+}
+
+impl From<NotCalled> for NotDone {
+    ghost from_gives = { λ why e. e ≡ NotMade why };
+
+    fn from(why: NotCalled) -> NotDone {
+        NotDone::NotCalled(why)
+    }
 }

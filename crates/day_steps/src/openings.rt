@@ -6,12 +6,13 @@ ghost use Rattle.awards.specs.Awards.{award_refusal, award_after, award_sheet};
 ghost use Rattle.gates.specs.declared.gate.Gate.TheVariants.{First};
 ghost use Rattle.day.specs.Opening.{opening_refusal, opened_day};
 ghost use Rattle.day_calls.specs.Answers.{said, numbered, unless, not_in_stage};
-ghost use Rattle.day_calls.specs.Days.{price_list, if_unopened, in_first, same_stage};
+ghost use Rattle.day_calls.specs.Days.{if_unopened, in_first, same_stage};
 
+use awards::awarded::Award;
 use awards::sheet::Sheet;
 use book::interface::Book;
 use day::stages::Announcing;
-use day_calls::calls::{Answer, NotCalled, Prices};
+use day_calls::calls::{Answer, NotCalled, NotDone};
 use day_calls::desk::Stage;
 use quantity::interface::Quantity;
 use quantity::reserve::ReserveQuantity;
@@ -26,38 +27,17 @@ pub fn open_step<O: Book, B: Book<Q = O::Q>, L: Records>(
     sheet: &mut Sheet,
     number: u8,
     quarters: u8,
-) -> Answer<O::Q>
+) -> Result<Answer<O::Q>, NotDone>
     ensures answer { said result ≡ if_unopened stage.old (unless (opening_refusal O.Q.Quantity.measure number quarters (O.Book.holdings obligations.now) (B.Book.holdings bids.now) (L.Records.contents requests.now)) (numbered (0 ∷ (1 ∷ [])))) not_in_stage }
     ensures stage { stage.new ≡ if_unopened stage.old (unless_refused (opening_refusal O.Q.Quantity.measure number quarters (O.Book.holdings obligations.now) (B.Book.holdings bids.now) (L.Records.contents requests.now)) (same_stage First (opened_day number quarters)) stage.old) stage.old }
     ensures sheet { view sheet.new ≡ if_unopened stage.old (unless_refused (opening_refusal O.Q.Quantity.measure number quarters (O.Book.holdings obligations.now) (B.Book.holdings bids.now) (L.Records.contents requests.now)) blank_view (view sheet.old)) (view sheet.old) }
 {
-    match stage {
-        Stage::Unopened => match Announcing::open(
-            number,
-            quarters,
-            obligations,
-            bids,
-            requests,
-            sheet,
-        ) {
-            Ok(opened) => {
-                *stage = Stage::Announcing(opened);
-                Answer::Opened
-            }
-            Err(refusal) => Answer::Refused(refusal),
-        },
-        _ => Answer::NotCalled(NotCalled::NotInThisStage),
-    }
-}
-
-// The prices of a call, as a slice.
-fn price_slice(prices: &Prices) -> &[u32]
-    ensures { result.now ≡ price_list prices.now }
-{
-    if prices.count < 13 {
-        return &prices.values[0..prices.count];
-    }
-    &prices.values
+    let Stage::Unopened = stage else {
+        return Err(NotCalled::NotInThisStage.into());
+    };
+    let opened = Announcing::open(number, quarters, obligations, bids, requests, sheet)?;
+    *stage = Stage::Announcing(opened);
+    Ok(Answer::Opened)
 }
 
 /// Awards a quantity in the first stage.
@@ -65,32 +45,21 @@ pub fn award_step<O: Book>(
     stage: &Stage,
     obligations: &mut O,
     sheet: &mut Sheet,
-    provider: u8,
-    block: u8,
-    quantity: O::Q,
-    prices: &Prices,
-) -> Answer<O::Q>
+    award: Award<O::Q>,
+    prices: &[u32],
+) -> Result<Answer<O::Q>, NotDone>
 where
     O::Q: ReserveQuantity,
-    ensures answer { said result ≡ in_first stage.now (λ day. unless (award_refusal O.Q.Quantity.measure (O.Book.holdings obligations.old) (O.Book.places obligations.old) (O.Book.admission obligations.old) O.Q.ReserveQuantity.directions day.quarters (view sheet.old).awards provider block quantity (price_list prices.now)) (numbered (0 ∷ (2 ∷ [])))) not_in_stage }
-    ensures after { amounts O.Q.Quantity.measure (O.Book.holdings obligations.new) ≡ in_first stage.now (λ day. award_after O.Q.Quantity.measure (O.Book.holdings obligations.old) (O.Book.places obligations.old) (O.Book.admission obligations.old) O.Q.ReserveQuantity.directions day.quarters (view sheet.old).awards provider block quantity (price_list prices.now)) (amounts O.Q.Quantity.measure (O.Book.holdings obligations.old)) }
+    ensures answer { said result ≡ in_first stage.now (λ day. unless (award_refusal O.Q.Quantity.measure (O.Book.holdings obligations.old) (O.Book.places obligations.old) (O.Book.admission obligations.old) O.Q.ReserveQuantity.directions day.quarters (view sheet.old).awards award.provider award.block award.quantity prices.now) (numbered (0 ∷ (2 ∷ [])))) not_in_stage }
+    ensures after { amounts O.Q.Quantity.measure (O.Book.holdings obligations.new) ≡ in_first stage.now (λ day. award_after O.Q.Quantity.measure (O.Book.holdings obligations.old) (O.Book.places obligations.old) (O.Book.admission obligations.old) O.Q.ReserveQuantity.directions day.quarters (view sheet.old).awards award.provider award.block award.quantity prices.now) (amounts O.Q.Quantity.measure (O.Book.holdings obligations.old)) }
     ensures places { O.Book.places obligations.new ≡ O.Book.places obligations.old }
     ensures admission { O.Book.admission obligations.new ≡ O.Book.admission obligations.old }
     ensures layer { O.Book.layer_number obligations.new ≡ O.Book.layer_number obligations.old }
-    ensures sheet { view sheet.new ≡ in_first stage.now (λ day. award_sheet O.Q.Quantity.measure (O.Book.holdings obligations.old) (O.Book.places obligations.old) (O.Book.admission obligations.old) O.Q.ReserveQuantity.tenths_in O.Q.ReserveQuantity.directions day.quarters provider block quantity (price_list prices.now) (view sheet.old)) (view sheet.old) }
+    ensures sheet { view sheet.new ≡ in_first stage.now (λ day. award_sheet O.Q.Quantity.measure (O.Book.holdings obligations.old) (O.Book.places obligations.old) (O.Book.admission obligations.old) O.Q.ReserveQuantity.tenths_in O.Q.ReserveQuantity.directions day.quarters award.provider award.block award.quantity prices.now (view sheet.old)) (view sheet.old) }
 {
-    match stage {
-        Stage::Announcing(announcing) => match announcing.award(
-            obligations,
-            sheet,
-            provider,
-            block,
-            quantity,
-            price_slice(prices),
-        ) {
-            Ok(()) => Answer::Awarded,
-            Err(refusal) => Answer::Refused(refusal),
-        },
-        _ => Answer::NotCalled(NotCalled::NotInThisStage),
-    }
+    let Stage::Announcing(announcing) = stage else {
+        return Err(NotCalled::NotInThisStage.into());
+    };
+    announcing.award(obligations, sheet, award, prices)?;
+    Ok(Answer::Awarded)
 }

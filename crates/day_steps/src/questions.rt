@@ -11,7 +11,7 @@ use awards::sheet::Sheet;
 use book::interface::Book;
 use day::questions::{holding_of, missing_volume, request_status};
 use day::stages::Day;
-use day_calls::calls::{Answer, NotCalled};
+use day_calls::calls::{Answer, NotCalled, NotDone};
 use day_calls::desk::Stage;
 use quantity::interface::Quantity;
 use quantity::reserve::ReserveQuantity;
@@ -36,16 +36,12 @@ pub fn holding_step<O: Book>(
     obligations: &O,
     provider: u8,
     quarter: u8,
-) -> Answer<O::Q>
+) -> Result<Answer<O::Q>, NotDone>
     ensures { said result ≡ once_opened stage.now (λ day. unless (question_refusal day provider quarter) (quantified (0 ∷ (5 ∷ [])) (held_at O.Q.Quantity.measure (O.Book.holdings obligations.now) provider quarter))) not_in_stage }
 {
-    match day_of(stage) {
-        None => Answer::NotCalled(NotCalled::NotInThisStage),
-        Some(day) => match holding_of(day, obligations, provider, quarter) {
-            Ok(quantity) => Answer::Held(quantity),
-            Err(refusal) => Answer::Refused(refusal),
-        },
-    }
+    let day = day_of(stage).ok_or(NotCalled::NotInThisStage)?;
+    let quantity = holding_of(day, obligations, provider, quarter)?;
+    Ok(Answer::Held(quantity))
 }
 
 /// What a provider owes in a quarter and has not bid.
@@ -56,18 +52,14 @@ pub fn missing_step<O: Book, B: Book<Q = O::Q>>(
     sheet: &Sheet,
     provider: u8,
     quarter: u8,
-) -> Answer<O::Q>
+) -> Result<Answer<O::Q>, NotDone>
 where
     O::Q: ReserveQuantity,
     ensures { said result ≡ once_opened stage.now (λ day. unless (question_refusal day provider quarter) (numbered (0 ∷ (6 ∷ (lacking ((view sheet.now).exempt provider quarter) (O.Q.ReserveQuantity.tenths_in (held_at O.Q.Quantity.measure (O.Book.holdings obligations.now) provider quarter) 0) (O.Q.ReserveQuantity.tenths_in (held_at O.Q.Quantity.measure (B.Book.holdings bids.now) provider quarter) 0) ∷ (lacking ((view sheet.now).exempt provider quarter) (O.Q.ReserveQuantity.tenths_in (held_at O.Q.Quantity.measure (O.Book.holdings obligations.now) provider quarter) 1) (O.Q.ReserveQuantity.tenths_in (held_at O.Q.Quantity.measure (B.Book.holdings bids.now) provider quarter) 1) ∷ [])))))) not_in_stage }
 {
-    match day_of(stage) {
-        None => Answer::NotCalled(NotCalled::NotInThisStage),
-        Some(day) => match missing_volume(day, obligations, bids, sheet, provider, quarter) {
-            Ok(missing) => Answer::Lacking(missing),
-            Err(refusal) => Answer::Refused(refusal),
-        },
-    }
+    let day = day_of(stage).ok_or(NotCalled::NotInThisStage)?;
+    let missing = missing_volume(day, obligations, bids, sheet, provider, quarter)?;
+    Ok(Answer::Lacking(missing))
 }
 
 /// How the request at a place stands.
@@ -75,14 +67,10 @@ pub fn status_step<Q: Quantity, L: Records<Record = Request<Q::Row>>>(
     stage: &Stage,
     requests: &L,
     place: usize,
-) -> Answer<Q>
+) -> Result<Answer<Q>, NotDone>
     ensures { said result ≡ once_opened stage.now (λ day. unless (status_refusal (slice_get (L.Records.contents requests.now) place)) (numbered (0 ∷ (7 ∷ status_number (status_of (slice_get (L.Records.contents requests.now) place)))))) not_in_stage }
 {
-    match day_of(stage) {
-        None => Answer::NotCalled(NotCalled::NotInThisStage),
-        Some(_) => match request_status(requests, place) {
-            Ok(status) => Answer::Standing(status),
-            Err(refusal) => Answer::Refused(refusal),
-        },
-    }
+    day_of(stage).ok_or(NotCalled::NotInThisStage)?;
+    let status = request_status(requests, place)?;
+    Ok(Answer::Standing(status))
 }

@@ -5,7 +5,7 @@ ghost use Rattle.day_calls.specs.Answers.{said as saying, numbered, unless, not_
 ghost use Rattle.day_calls.specs.Days.{before_gate, joining_before, same_stage};
 
 use day::announcing::Announcement;
-use day_calls::calls::{Answer, NotCalled};
+use day_calls::calls::{Answer, NotCalled, NotDone};
 use day_calls::desk::Stage;
 use quantity::interface::Quantity;
 use record_list::interface::Records;
@@ -16,21 +16,16 @@ pub fn announce_step<Q: Quantity, L: Records<Record = Request<Q::Row>>>(
     stage: &mut Stage,
     requests: &mut L,
     said: Announcement<Q>,
-) -> Answer<Q>
-    ensures answer { saying result ≡ before_gate stage.old (λ gate day. unless (announce_refusal Q.Quantity.measure day (joining_before gate) said (L.Records.contents requests.old) (L.Records.places requests.old)) (numbered (0 ∷ (3 ∷ (announcement_place (joining_before gate) (L.Records.contents requests.old) said.giver said.taker said.first said.last ∷ []))))) not_in_stage }
+) -> Result<Answer<Q>, NotDone>
+    ensures answer { saying result ≡ before_gate stage.old (λ gate day. unless (announce_refusal Q.Quantity.measure day (joining_before gate) said (L.Records.contents requests.old) (L.Records.places requests.old)) (numbered (0 ∷ (3 ∷ (announcement_place (joining_before gate) (L.Records.contents requests.old) said.passage ∷ []))))) not_in_stage }
     ensures stage { stage.new ≡ before_gate stage.old (λ gate day. same_stage gate (announced_day day said (announce_refusal Q.Quantity.measure day (joining_before gate) said (L.Records.contents requests.old) (L.Records.places requests.old)))) stage.old }
     ensures requests { (L.Records.contents requests.new) ≡ before_gate stage.old (λ gate day. announced_list Q.Quantity.measure day (joining_before gate) said (L.Records.contents requests.old) (L.Records.places requests.old)) (L.Records.contents requests.old) }
     ensures room { L.Records.places requests.new ≡ L.Records.places requests.old }
 {
-    match stage {
-        Stage::Announcing(announcing) => match announcing.announce(requests, said) {
-            Ok(place) => Answer::Placed(place),
-            Err(refusal) => Answer::Refused(refusal),
-        },
-        Stage::Reconciling(reconciling) => match reconciling.announce(requests, said) {
-            Ok(place) => Answer::Placed(place),
-            Err(refusal) => Answer::Refused(refusal),
-        },
-        _ => Answer::NotCalled(NotCalled::NotInThisStage),
-    }
+    let place = match stage {
+        Stage::Announcing(first) => first.announce(requests, said)?,
+        Stage::Reconciling(second) => second.announce(requests, said)?,
+        _ => return Err(NotCalled::NotInThisStage.into()),
+    };
+    Ok(Answer::Placed(place))
 }

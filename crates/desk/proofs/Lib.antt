@@ -1,1 +1,1 @@
-mod Calls
+mod Lawful

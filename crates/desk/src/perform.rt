@@ -2,7 +2,7 @@ ghost use Rattle.day_calls.specs.Days.{state_of};
 ghost use Rattle.laws.specs.Laws.{Performed, KeepsLaw};
 
 use book::interface::Book;
-use day_calls::calls::{Answer, DayCall};
+use day_calls::calls::{Answer, DayCall, NotDone};
 use day_calls::desk::Desk;
 use day_steps::gate_calls::gate_step;
 use day_steps::openings::{award_step, open_step};
@@ -18,11 +18,11 @@ pub fn perform_on<
     O: Book,
     B: Book<Q = O::Q>,
     L: Records<Record = Request<<O::Q as Quantity>::Row>>,
->(desk: &mut Desk<O, B, L>, call: DayCall<O::Q>) -> Answer<O::Q>
+>(desk: &mut Desk<O, B, L>, call: &DayCall<O::Q>) -> Result<Answer<O::Q>, NotDone>
 where
     O::Q: ReserveQuantity,
-    ensures performed { Performed O.Q.Quantity.measure O.Q.ReserveQuantity.tenths_in O.Q.ReserveQuantity.directions (state_of O.Book.holdings O.Book.places O.Book.admission B.Book.holdings L.Records.contents L.Records.places desk.old) call result (state_of O.Book.holdings O.Book.places O.Book.admission B.Book.holdings L.Records.contents L.Records.places desk.new) }
-    ensures law { KeepsLaw O.Q.Quantity.measure O.Q.ReserveQuantity.tenths_in O.Q.ReserveQuantity.directions (state_of O.Book.holdings O.Book.places O.Book.admission B.Book.holdings L.Records.contents L.Records.places desk.old) call result (state_of O.Book.holdings O.Book.places O.Book.admission B.Book.holdings L.Records.contents L.Records.places desk.new) }
+    ensures performed { Performed O.Q.Quantity.measure O.Q.ReserveQuantity.tenths_in O.Q.ReserveQuantity.directions (state_of O.Book.holdings O.Book.places O.Book.admission B.Book.holdings L.Records.contents L.Records.places desk.old) call.now result (state_of O.Book.holdings O.Book.places O.Book.admission B.Book.holdings L.Records.contents L.Records.places desk.new) }
+    ensures law { KeepsLaw O.Q.Quantity.measure O.Q.ReserveQuantity.tenths_in O.Q.ReserveQuantity.directions (state_of O.Book.holdings O.Book.places O.Book.admission B.Book.holdings L.Records.contents L.Records.places desk.old) call.now result (state_of O.Book.holdings O.Book.places O.Book.admission B.Book.holdings L.Records.contents L.Records.places desk.new) }
 {
     match call {
         DayCall::Open { number, quarters } => open_step(
@@ -31,44 +31,37 @@ where
             &desk.bids,
             &desk.requests,
             &mut desk.sheet,
-            number,
-            quarters,
+            *number,
+            *quarters,
         ),
-        DayCall::Award {
-            provider,
-            block,
-            quantity,
-            prices,
-        } => award_step(
+        DayCall::Award { award, prices } => award_step(
             &desk.stage,
             &mut desk.obligations,
             &mut desk.sheet,
-            provider,
-            block,
-            quantity,
-            &prices,
+            *award,
+            prices,
         ),
-        DayCall::Announce(said) => announce_step(&mut desk.stage, &mut desk.requests, said),
+        DayCall::Announce(said) => announce_step(&mut desk.stage, &mut desk.requests, *said),
         DayCall::Gate { minute } => gate_step(
             &mut desk.stage,
             &mut desk.obligations,
             &mut desk.requests,
-            minute,
+            *minute,
         ),
         DayCall::Holding { provider, quarter } => holding_step(
             &desk.stage,
             &desk.obligations,
-            provider,
-            quarter,
+            *provider,
+            *quarter,
         ),
         DayCall::Missing { provider, quarter } => missing_step(
             &desk.stage,
             &desk.obligations,
             &desk.bids,
             &desk.sheet,
-            provider,
-            quarter,
+            *provider,
+            *quarter,
         ),
-        DayCall::Status { place } => status_step(&desk.stage, &desk.requests, place),
+        DayCall::Status { place } => status_step(&desk.stage, &desk.requests, *place),
     }
 }

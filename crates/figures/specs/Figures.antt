@@ -25,7 +25,7 @@ held p t = cond (p == 0 && nat_le t 2) (volume_told 100) no_volume
 
 -- a balanced request from provider 0 to provider 1
 abbrev pub balanced : ℕ → ℕ → ℕ → Request ℕ
-balanced first last tenths = record { giver = 0; taker = 1; first = first; last = last; giving = Some tenths; taking = Some tenths; status = BalanceOk }
+balanced first last tenths = record { passage = record { giver = 0; taker = 1; first = first; last = last }; giving = Some tenths; taking = Some tenths; status = BalanceOk }
 
 abbrev pub statuses : List (Request ℕ) → List Status
 statuses rs = map (λ (r : Request ℕ). r.status) rs
@@ -39,10 +39,10 @@ left rs = map (λ t. (after_moves volume_measure 3200 everything held rs 0 t).te
 
 -- the giver of 60 tenths announces at a minute
 abbrev pub said : ℤ → Announcement Volume
-said minute = record { side = Giver; giver = 0; taker = 1; first = 0; last = 1; quantity = volume_told 60; minute = minute }
+said minute = record { side = Giver; passage = record { giver = 0; taker = 1; first = 0; last = 1 }; quantity = volume_told 60; minute = minute }
 
 abbrev pub waiting : List (Request ℕ)
-waiting = record { giver = 0; taker = 1; first = 0; last = 1; giving = None; taking = Some 60; status = WaitingForCounterpart } ∷ []
+waiting = record { passage = record { giver = 0; taker = 1; first = 0; last = 1 }; giving = None; taking = Some 60; status = WaitingForCounterpart } ∷ []
 
 pub record Figures : Type 0 where
   -- an award of 100 tenths up for one block of 16 quarters at 1,250 cents earns 2,000,000 fortieths of a cent

@@ -1,25 +1,20 @@
 -- The holdings that rows tell.
-use Rattle.std.proofs.Common.{◌≡◌, ℕ, ◌+◌, ◌*◌, ◌<◌, ◌≤◌, Bool, true, false, cond, not, ◌&&◌, eqb, leb, ◌≢◌, List, ◌++◌, map, length, get_or, take, drop, set, Some, None, Option, unwrap_or, sym, refl, ap, ◌∙◌, ⊎_elim, arith, length-append, length-drop, length-set, length-take}
+use Rattle.std.proofs.Common.{◌≡◌, ℕ, zero, suc, add-zero, ◌+◌, ◌*◌, ◌<◌, ◌≤◌, Bool, true, false, cond, not, ◌&&◌, eqb, leb, ◌≢◌, List, ◌++◌, map, length, get_or, take, drop, set, Some, None, Option, unwrap_or, sym, refl, ap, ◌∙◌, ⊎_elim, arith, length-append, length-drop, length-set, length-take}
 use mathlib.Core.Path.{fun_ext}
 use Rattle.std.proofs.lemmas.List.Edits.{map_over_more}
 use Rattle.std.proofs.lemmas.List.{get_or_default, get_or-map, get_or_append_left, length-take-le, length-map, get_or-set_same, get_or-set_other, get_or_read}
 use Rattle.std.proofs.lemmas.Bool.{and_parts, and_from, and_cases, and_left, and_right, cond-true, cond-false, cond_both, eqb-true, eqb-false, leb-true, le-leb, lt-leb, not_from_true, not_from_false, true≢false}
 use Rattle.quantity.specs.Measure.{Measure, is_zero}
-use Rattle.book.specs.Grid.{in_range, put, amounts, taken}
+use Rattle.book.specs.Grid.{Grid, in_range, put, total, amounts, filled, taken}
 use Rattle.book.specs.Calls.{held_at, crowded, change_refusal, everything, changed}
 use Rattle.book.specs.declared.answers.BookRefusal.{BookRefusal}
 use Rattle.book.specs.declared.answers.BookRefusal.TheVariants.{NoFreePlace}
 use Rattle.book.proofs.Grids.{range_from, range_parts, put_same}
-use Rattle.book.proofs.Counts.{taken_short, nothing_zero}
+use Rattle.book.proofs.Counts.{total_none, total_more, taken_none, taken_short, nothing_zero}
+use Rattle.book.proofs.Changes.{held_inside}
+use Rattle.std.proofs.lemmas.List.Sums.{sum_by-cons}
+use Rattle.std.specs.List.{count_by, range_with_len}
 use Rattle.full_book.specs.Rows.{enough, rows_held, rows_places, blanked}
-
--- a loop that writes y over each row: one more
-pub blank_more : {R : Type 0} (rows now : List R) (i : ℕ) (y : R) → i < length rows → now ≡ map (λ _. y) (take i rows) ++ drop i rows → set now i y ≡ map (λ _. y) (take (i + 1) rows) ++ drop (i + 1) rows
-blank_more rows now i y l e = map_over_more (λ _. y) rows now i (get_or now i y) l e (get_or_default now i y (get_or now i y) (rw e (simp (length-append, length-map, length-take, length-drop) (omega arith))))
-
--- as many rows, as many places
-pub same_places : {R : Type 0} (xs ys : List R) → length xs ≡ length ys → rows_places xs ≡ rows_places ys
-same_places xs ys e = ap {B = ℕ} (λ n. cond (leb 3200 n) 3200 0) e
 
 module _ {Q R : Type 0} (m : Measure Q R) where
   module _ (rows : List R) where
@@ -30,6 +25,9 @@ module _ {Q R : Type 0} (m : Measure Q R) where
     pub held_few : enough rows ≡ false → (p t : ℕ) → rows_held m rows p t ≡ m.nothing
     unfolding rows_held
     held_few e p t = cond-false (in_range p t && enough rows) (m.told (row_at p t)) m.nothing (and_right (in_range p t) (enough rows) e)
+
+    pub few_taken : enough rows ≡ false → taken m (rows_held m rows) ≡ 0
+    few_taken e = taken_none m (rows_held m rows) (λ p t. ap (is_zero m) (held_few e p t) ∙ nothing_zero m)
 
     pub held_outside : (p t : ℕ) → in_range p t ≡ false → rows_held m rows p t ≡ m.nothing
     unfolding rows_held
@@ -44,15 +42,15 @@ module _ {Q R : Type 0} (m : Measure Q R) where
 
     -- rows enough for all, and one of them
     module _ (e : enough rows ≡ true) (p t : ℕ) (hp : p < 32) (ht : t < 100) where
-      held_inside : rows_held m rows p t ≡ m.told (row_at p t)
+      row_inside : rows_held m rows p t ≡ m.told (row_at p t)
       unfolding rows_held
-      held_inside = cond-true (in_range p t && enough rows) (m.told (row_at p t)) m.nothing (and_from (in_range p t) (enough rows) (range_from p t hp ht) e)
+      row_inside = cond-true (in_range p t && enough rows) (m.told (row_at p t)) m.nothing (and_from (in_range p t) (enough rows) (range_from p t hp ht) e)
 
       long : p * 100 + t < length rows
       long = omega (arith, leb-true 3200 (length rows) e)
 
       pub held_read : (x : R) → x ≡ get_or rows (p * 100 + t) x → rows_held m rows p t ≡ m.told x
-      held_read x r = held_inside ∙ ap m.told (sym (get_or_read rows (p * 100 + t) x long r (m.row m.nothing)))
+      held_read x r = row_inside ∙ ap m.told (sym (get_or_read rows (p * 100 + t) x long r (m.row m.nothing)))
 
       pub row_told_inside : (x : R) → x ≡ get_or rows (p * 100 + t) x → held_at m (rows_held m rows) p t ≡ m.told x
       row_told_inside x r = cond-true (in_range p t) (rows_held m rows p t) m.nothing (range_from p t hp ht) ∙ held_read x r
@@ -116,10 +114,6 @@ module _ {Q R : Type 0} (m : Measure Q R) where
       none_free : leb (rows_places rows) (taken m (rows_held m rows)) ≡ true
       none_free = ap (λ n. leb n (taken m (rows_held m rows))) (cond-false (enough rows) 3200 0 e) ∙ le-leb 0 (taken m (rows_held m rows)) (omega arith)
 
-      pub few_zero_answer : is_zero m q ≡ true → (refusal : BookRefusal) (new : Option Q) → new ≡ Some q → None ≡ change_refusal m (rows_held m rows) (rows_places rows) refusal (everything p t) p t new
-      few_zero_answer z refusal new s =
-          sym (ap (change_refusal m (rows_held m rows) (rows_places rows) refusal (everything p t) p t) s ∙ ap (crowded m (rows_held m rows) (rows_places rows)) (and_right (is_zero m (rows_held m rows p t)) (not (is_zero m q) && leb (rows_places rows) (taken m (rows_held m rows))) (and_left (not (is_zero m q)) (leb (rows_places rows) (taken m (rows_held m rows))) (not_from_true (is_zero m q) z))))
-
       pub few_zero_after : is_zero m q ≡ true → (new : Option Q) → new ≡ Some q → amounts m (rows_held m rows) ≡ changed m (rows_held m rows) p t None new
       unfolding amounts
       few_zero_after z new s =
@@ -137,7 +131,7 @@ module _ {Q R : Type 0} (m : Measure Q R) where
     zeros_amount p t true h false k = ap m.amount (held_few rows k p t) ∙ m.nothing_none
     zeros_amount p t true h true k =
         let l = range_parts p t h in
-        ap m.amount (held_inside rows k p t l.0 l.1)
+        ap m.amount (row_inside rows k p t l.0 l.1)
         ∙ (ap (λ y. m.amount (m.told y)) (zero-rows k (p * 100 + t) (omega (arith, l.0, l.1))) ∙ (m.row_told m.nothing ∙ m.nothing_none))
 
     pub zeros_empty : amounts m (rows_held m rows) ≡ (λ _ _. m.none)
@@ -167,3 +161,23 @@ module _ {Q R : Type 0} (m : Measure Q R) where
 
     pub blank_empty : amounts m (rows_held m (blanked m rows)) ≡ (λ _ _. m.none)
     blank_empty = zeros_empty (blanked m rows) (λ e k l. blank_row (sym blank_enough ∙ e) k l)
+
+-- the zero holdings of a provider counted, with those that are not zero
+module _ (test : ℕ → Bool) (f : ℕ → ℕ) where
+  either : (b : Bool) → cond b 1 0 + cond b 0 1 ≡ 1
+  either true = refl
+  either false = refl
+
+  counted : (a n : ℕ) → ((k : ℕ) → k < a + n → f k ≡ cond (test k) 0 1) → count_by test (range_with_len a n) + total f (a + n) ≡ n + total f a
+  counted a zero h = rw add-zero refl
+  counted a (suc n) h =
+      let e : a + suc n ≡ (a + 1) + n = omega arith in
+      omega (arith, sum_by-cons (λ k. cond (test k) 1 0) a (range_with_len (a + 1) n), counted (a + 1) n (λ k l. h k (omega arith)), total_more f a, h a (omega arith), either (test a), ap (total f) e)
+
+pub zeros_counted : {Q R : Type 0} (m : Measure Q R) (held : Grid Q) (p : ℕ) → p < 32 → count_by (λ t. is_zero m (held_at m held p t)) (range_with_len 0 100) + total (filled m held p) 100 ≡ 100
+zeros_counted m held p hp =
+    omega (
+      arith,
+      total_none (filled m held p),
+      counted (λ t. is_zero m (held_at m held p t)) (filled m held p) 0 100 (λ t ht. ap {B = ℕ} (λ q. cond (is_zero m q) 0 1) (sym (held_inside m held p t (range_from p t hp (omega arith))))),
+    )

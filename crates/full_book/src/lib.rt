@@ -1,5 +1,6 @@
 #![tactic(auto)]
 
 pub mod lent;
+pub mod row_book;
 pub mod rows;
 pub mod stored;

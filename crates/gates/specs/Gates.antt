@@ -2,7 +2,7 @@
 use Rattle.std.specs.Prelude.{◌≡◌, ℕ, ◌+◌, Bool, true, false, cond, List, [], ◌∷◌, take, Some, None, Option}
 use Rattle.std.specs.List.{slice_get}
 use Rattle.quantity.specs.Measure.{Measure}
-use Rattle.book.specs.Grid.{Grid}
+use Rattle.book.specs.Grid.{Grid, amounts}
 use Rattle.book.specs.Admissions.{Admission}
 use Rattle.refusals.specs.declared.refusal.Refusal.{Refusal}
 use Rattle.refusals.specs.First.{unless_refused}
@@ -13,6 +13,10 @@ use Rattle.requests.specs.declared.request.Request.{Request}
 use Rattle.gates.specs.declared.gate.Gate.{Gate}
 use Rattle.gates.specs.declared.gate.Gate.TheVariants.{First, Second}
 
+-- a fact of all holdings of the same amounts
+abbrev pub AlikeOver : {Q R : Type 0} → Measure Q R → Grid Q → (Grid Q → Type 0) → Type 0
+AlikeOver {Q = Q} m held Fact = (other : Grid Q) → amounts m other ≡ amounts m held → Fact other
+
 -- the quantity that passes: what the giver announced last
 abbrev pub passing : {Q R : Type 0} → Measure Q R → Option R → Q
 passing m None = m.nothing
@@ -20,7 +24,7 @@ passing m (Some row) = m.told row
 
 -- a request with another status
 abbrev pub given_status : {R : Type 0} → Request R → Status → Request R
-given_status r status = record { giver = r.giver; taker = r.taker; first = r.first; last = r.last; giving = r.giving; taking = r.taking; status = status }
+given_status r status = record { passage = r.passage; giving = r.giving; taking = r.taking; status = status }
 
 -- the status of a move that was made, or that a cause kept from being made
 abbrev pub outcome : Option Refusal → Status
@@ -63,7 +67,7 @@ judged gate why status = cond (has_balance status) (outcome why) (closed gate st
 module _ {Q R : Type 0} (m : Measure Q R) (places : ℕ) (admission : ℕ → ℕ → Q → Admission) where
   -- why the move of a request cannot be made over these holdings, if it cannot
   abbrev pub cause : Grid Q → Request R → Option Refusal
-  cause held r = move_refusal m held places admission r.giver r.taker r.first r.last (passing m r.giving)
+  cause held r = move_refusal m held places admission r.passage.giver r.passage.taker r.passage.first r.passage.last (passing m r.giving)
 
   -- one request after the gate, over the holdings that its predecessors left
   abbrev pub settled : Gate → Grid Q → Request R → Request R
@@ -71,7 +75,7 @@ module _ {Q R : Type 0} (m : Measure Q R) (places : ℕ) (admission : ℕ → �
 
   -- the holdings after the move of a request, if it can be made
   abbrev pub moved_on : Grid Q → Request R → Grid Q
-  moved_on held r = unless_refused (cause held r) (moved_holdings m held r.giver r.taker (passing m r.giving) r.first (r.last + 1)) held
+  moved_on held r = unless_refused (cause held r) (moved_holdings m held r.passage.giver r.passage.taker (passing m r.giving) r.passage.first (r.passage.last + 1)) held
 
   -- the holdings after a request: only a balanced one moves
   abbrev pub passed_on : Grid Q → Request R → Grid Q

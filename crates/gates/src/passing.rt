@@ -1,35 +1,26 @@
 ghost use Rattle.std.specs.Prelude.{◌≡◌};
 ghost use Rattle.std.specs.List.{slice_get};
 ghost use Rattle.std.specs.Result.{result_err};
-ghost use Rattle.book.specs.Grid.{Grid, amounts};
+ghost use Rattle.book.specs.Grid.{amounts};
 ghost use Rattle.requests.specs.Announcing.{changed_at};
-ghost use Rattle.gates.specs.Gates.{passing, given_status, outcome, has_balance, closed, cause, moved_on, settled, passed_on, passed_at, after_moves, gated, Judged};
+ghost use Rattle.gates.specs.Gates.{AlikeOver, passing, outcome, closed, cause, moved_on, settled, passed_on, passed_at, after_moves, gated, Judged};
 
 use crate::gate::Gate;
 use book::interface::Book;
 use quantity::interface::Quantity;
 use record_list::interface::Records;
 use refusals::refusal::Refusal;
-use requests::request::{Request, Status};
+use requests::request::{Passage, Request, Status};
 use span_moves::spans::move_span;
 
 // The quantity that passes: what the giver announced last.
 fn passing_quantity<Q: Quantity>(giving: Option<Q::Row>) -> Q
     ensures { result ≡ passing Q.Quantity.measure giving }
 {
+    // Not `map_or`: the check does not cover a function passed there whose result alone names `Q`.
     match giving {
         Some(row) => Q::of_row(row),
         None => Q::zero(),
-    }
-}
-
-// Whether both sides announced equal quantities.
-fn is_balanced(status: Status) -> bool
-    ensures { result ≡ has_balance status }
-{
-    match status {
-        Status::BalanceOk => true,
-        _ => false,
     }
 }
 
@@ -37,9 +28,10 @@ fn is_balanced(status: Status) -> bool
 fn closed_status(gate: Gate, status: Status) -> Status
     ensures { result ≡ closed gate status }
 {
-    match (status, gate) {
-        (Status::WaitingForCounterpart, Gate::Second) => Status::Rejected(None),
-        (Status::BalanceError, Gate::Second) => Status::Rejected(None),
+    match status {
+        Status::WaitingForCounterpart | Status::BalanceError if gate == Gate::Second => {
+            Status::Rejected(None)
+        }
         _ => status,
     }
 }
@@ -57,37 +49,21 @@ fn status_of_move(made: Result<(), Refusal>) -> Status
 // Makes the move of a balanced request, and tells how it stands then.
 // Its answer is that of all holdings of the same amounts.
 fn make_move<O: Book>(obligations: &mut O, request: Request<<O::Q as Quantity>::Row>) -> Status
-    ensures status { (other : Grid O.Q) → amounts O.Q.Quantity.measure other ≡ amounts O.Q.Quantity.measure (O.Book.holdings obligations.old) → result ≡ outcome (cause O.Q.Quantity.measure (O.Book.places obligations.old) (O.Book.admission obligations.old) other request) }
-    ensures after { (other : Grid O.Q) → amounts O.Q.Quantity.measure other ≡ amounts O.Q.Quantity.measure (O.Book.holdings obligations.old) → amounts O.Q.Quantity.measure (O.Book.holdings obligations.new) ≡ amounts O.Q.Quantity.measure (moved_on O.Q.Quantity.measure (O.Book.places obligations.old) (O.Book.admission obligations.old) other request) }
+    ensures status { AlikeOver O.Q.Quantity.measure (O.Book.holdings obligations.old) (λ other. result ≡ outcome (cause O.Q.Quantity.measure (O.Book.places obligations.old) (O.Book.admission obligations.old) other request)) }
+    ensures after { AlikeOver O.Q.Quantity.measure (O.Book.holdings obligations.old) (λ other. amounts O.Q.Quantity.measure (O.Book.holdings obligations.new) ≡ amounts O.Q.Quantity.measure (moved_on O.Q.Quantity.measure (O.Book.places obligations.old) (O.Book.admission obligations.old) other request)) }
     ensures places { O.Book.places obligations.new ≡ O.Book.places obligations.old }
     ensures admission { O.Book.admission obligations.new ≡ O.Book.admission obligations.old }
     ensures layer { O.Book.layer_number obligations.new ≡ O.Book.layer_number obligations.old }
 {
     let quantity = passing_quantity(request.giving);
-    let made = move_span(
-        obligations,
-        request.giver,
-        request.taker,
-        request.first,
-        request.last,
-        quantity,
-    );
+    let Passage {
+        giver,
+        taker,
+        first,
+        last,
+    } = request.passage;
+    let made = move_span(obligations, giver, taker, first, last, quantity);
     status_of_move(made)
-}
-
-// A request with another status.
-fn with_status<R: Copy>(request: Request<R>, status: Status) -> Request<R>
-    ensures { result ≡ given_status request status }
-{
-    Request {
-        giver: request.giver,
-        taker: request.taker,
-        first: request.first,
-        last: request.last,
-        giving: request.giving,
-        taking: request.taking,
-        status,
-    }
 }
 
 // Decides one request.
@@ -96,18 +72,17 @@ fn settle_request<O: Book>(
     gate: Gate,
     request: Request<<O::Q as Quantity>::Row>,
 ) -> Request<<O::Q as Quantity>::Row>
-    ensures request { (other : Grid O.Q) → amounts O.Q.Quantity.measure other ≡ amounts O.Q.Quantity.measure (O.Book.holdings obligations.old) → result ≡ settled O.Q.Quantity.measure (O.Book.places obligations.old) (O.Book.admission obligations.old) gate other request }
-    ensures after { (other : Grid O.Q) → amounts O.Q.Quantity.measure other ≡ amounts O.Q.Quantity.measure (O.Book.holdings obligations.old) → amounts O.Q.Quantity.measure (O.Book.holdings obligations.new) ≡ amounts O.Q.Quantity.measure (passed_on O.Q.Quantity.measure (O.Book.places obligations.old) (O.Book.admission obligations.old) other request) }
+    ensures request { AlikeOver O.Q.Quantity.measure (O.Book.holdings obligations.old) (λ other. result ≡ settled O.Q.Quantity.measure (O.Book.places obligations.old) (O.Book.admission obligations.old) gate other request) }
+    ensures after { AlikeOver O.Q.Quantity.measure (O.Book.holdings obligations.old) (λ other. amounts O.Q.Quantity.measure (O.Book.holdings obligations.new) ≡ amounts O.Q.Quantity.measure (passed_on O.Q.Quantity.measure (O.Book.places obligations.old) (O.Book.admission obligations.old) other request)) }
     ensures places { O.Book.places obligations.new ≡ O.Book.places obligations.old }
     ensures admission { O.Book.admission obligations.new ≡ O.Book.admission obligations.old }
     ensures layer { O.Book.layer_number obligations.new ≡ O.Book.layer_number obligations.old }
 {
-    let status = if is_balanced(request.status) {
-        make_move(obligations, request)
-    } else {
-        closed_status(gate, request.status)
+    let status = match request.status {
+        Status::BalanceOk => make_move(obligations, request),
+        status => closed_status(gate, status),
     };
-    with_status(request, status)
+    Request { status, ..request }
 }
 
 // Decides the request at a place.
@@ -117,8 +92,8 @@ fn settle_at<O: Book, L: Records<Record = Request<<O::Q as Quantity>::Row>>>(
     gate: Gate,
     place: usize,
 )
-    ensures requests { (other : Grid O.Q) → amounts O.Q.Quantity.measure other ≡ amounts O.Q.Quantity.measure (O.Book.holdings obligations.old) → (L.Records.contents requests.new) ≡ changed_at (settled O.Q.Quantity.measure (O.Book.places obligations.old) (O.Book.admission obligations.old) gate other) (L.Records.contents requests.old) place }
-    ensures after { (other : Grid O.Q) → amounts O.Q.Quantity.measure other ≡ amounts O.Q.Quantity.measure (O.Book.holdings obligations.old) → amounts O.Q.Quantity.measure (O.Book.holdings obligations.new) ≡ amounts O.Q.Quantity.measure (passed_at O.Q.Quantity.measure (O.Book.places obligations.old) (O.Book.admission obligations.old) other (slice_get (L.Records.contents requests.old) place)) }
+    ensures requests { AlikeOver O.Q.Quantity.measure (O.Book.holdings obligations.old) (λ other. (L.Records.contents requests.new) ≡ changed_at (settled O.Q.Quantity.measure (O.Book.places obligations.old) (O.Book.admission obligations.old) gate other) (L.Records.contents requests.old) place) }
+    ensures after { AlikeOver O.Q.Quantity.measure (O.Book.holdings obligations.old) (λ other. amounts O.Q.Quantity.measure (O.Book.holdings obligations.new) ≡ amounts O.Q.Quantity.measure (passed_at O.Q.Quantity.measure (O.Book.places obligations.old) (O.Book.admission obligations.old) other (slice_get (L.Records.contents requests.old) place))) }
     ensures places { O.Book.places obligations.new ≡ O.Book.places obligations.old }
     ensures admission { O.Book.admission obligations.new ≡ O.Book.admission obligations.old }
     ensures layer { O.Book.layer_number obligations.new ≡ O.Book.layer_number obligations.old }

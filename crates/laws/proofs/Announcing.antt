@@ -1,7 +1,7 @@
 -- What a taken announcement makes of the last words and of the requests: one request is heard, and no volume passes.
-use Rattle.std.proofs.Common.{◌≡◌, ℕ, zero, suc, ◌<◌, Bool, true, false, cond, not, ◌&&◌, eqb, ltb, ◌⊎◌, List, [], ◌∷◌, ◌++◌, length, drop, set, Some, None, Option, unwrap_or, sym, refl, ap, ◌∙◌, subst, inl, inr, ⊎_elim, zero-add}
-use Rattle.std.proofs.lemmas.Bool.{false≢true, not-false, cases_eq, eq-eqb, ne_eqb, eqb-true, ltb-true, and_parts}
-use Rattle.std.specs.List.{slice_get}
+use Rattle.std.proofs.Common.{◌≡◌, ℕ, zero, suc, ◌<◌, Bool, true, false, cond, not, eqb, ltb, List, [], ◌∷◌, ◌++◌, length, drop, set, Some, None, Option, unwrap_or, sym, refl, ap, ◌∙◌, subst, ⊎_elim, zero-add}
+use Rattle.std.proofs.lemmas.Bool.{false≢true, not-false, cases_eq, eq-eqb, ne_eqb, ltb-true, and_parts}
+use Rattle.std.specs.List.{slice_get, position}
 use Rattle.quantity.specs.Measure.{Measure}
 use Rattle.book.specs.Grid.{Grid}
 use Rattle.refusals.specs.declared.refusal.Refusal.{Refusal}
@@ -15,8 +15,9 @@ use Rattle.requests.specs.declared.request.Status.TheVariants.{WaitingForCounter
 use Rattle.requests.specs.declared.request.Request.{Request}
 use Rattle.requests.specs.declared.finding.Joining.{Joining}
 use Rattle.requests.specs.declared.finding.Joining.TheVariants.{Unresolved, NotBalanced}
-use Rattle.requests.specs.Requests.{joins, matching, later, first_place, balance, spoken}
+use Rattle.requests.specs.Requests.{joins, same_passage, matching, balance, spoken}
 use Rattle.requests.specs.Announcing.{changed_of, changed_at, unspoken, has_place, addition_refusal, added, refusal_of, list_of, announcement_refusal, announcement_place, announcement_list}
+use Rattle.requests.proofs.Places.{place_holds, passages_equal}
 use Rattle.gates.specs.Gates.{passing}
 use Rattle.day.specs.declared.stages.Day.{Day}
 use Rattle.day.specs.declared.announcing.Announcement.{Announcement}
@@ -24,24 +25,9 @@ use Rattle.day.specs.Announcing.{no_provider, outline, outline_refusal, announce
 use Rattle.laws.specs.Sums.{sum_from}
 use Rattle.laws.specs.Volumes.{is_confirmed, from_giver, to_taker}
 use Rattle.laws.specs.Laws.{agreed, Matches}
-use Rattle.laws.proofs.Parts.{some_same, none_some, when_none, fronts_none, two_pass}
+use Rattle.laws.proofs.Parts.{none_some, when_none, fronts_none, two_pass}
 use Rattle.laws.proofs.Sums.{sum_changed, sum_added}
 use Rattle.laws.proofs.Stands.{Words, Volume, AllFounded}
-
--- The first place of which a test holds has an element of which it holds.
-place_parts : (b : Bool) (o : Option ℕ) (k : ℕ) → cond b (Some 0) (later o) ≡ Some k → ((b ≡ true) × (k ≡ 0)) ⊎ ((j : ℕ) × (o ≡ Some j) × (k ≡ suc j))
-place_parts true o k e = inl (refl, sym (some_same 0 k e))
-place_parts false None k e = absurd (none_some k e)
-place_parts false (Some j) k e = inr (j, refl, sym (some_same (suc j) k e))
-
-pub place_holds : {E : Type 0} (test : E → Bool) (xs : List E) (k : ℕ) → first_place test xs ≡ Some k → (x : E) × (slice_get xs k ≡ Some x) × (test x ≡ true)
-unfolding first_place
-place_holds test [] k e = absurd (none_some k e)
-place_holds test (x ∷ xs) k e =
-    ⊎_elim
-    (λ (w : (test x ≡ true) × (k ≡ 0)). (x, ap (slice_get (x ∷ xs)) w.1, w.0))
-    (λ (w : (j : ℕ) × (first_place test xs ≡ Some j) × (k ≡ suc j)). let v = place_holds test xs w.0 w.1 in (v.0, ap (slice_get (x ∷ xs)) w.2 ∙ v.1, v.2))
-    (place_parts (test x) (first_place test xs) k e)
 
 -- the elements of a list with one element replaced, or with one more
 nth_set_here : {E : Type 0} (xs : List E) (i : ℕ) (x y : E) → slice_get xs i ≡ Some x → slice_get (set xs i y) i ≡ Some y
@@ -114,10 +100,10 @@ module _ {Q R : Type 0} (m : Measure Q R) where
       sym (m.row_told q) ∙ sym (m.alike_same (m.told given) (m.told (m.row q)) (agreed_if (m.alike (m.told given) (m.told (m.row q))) e))
 
   -- a request that was heard says what was announced
-  module _ (a : Announcement Q) (giver_there : a.giver < 32) (taker_there : a.taker < 32) where
-    pub heard : (side : Side) (r : Request R) → a.giver ≡ r.giver → a.taker ≡ r.taker → a.first ≡ r.first → a.last ≡ r.last → Matches m a (spoken m side (m.row a.quantity) r)
-    heard Giver r g t f l = record { giver = g; taker = t; first = f; last = l; giver_there = giver_there; taker_there = taker_there; quantity = λ e. sym (m.row_told a.quantity) }
-    heard Taker r g t f l = record { giver = g; taker = t; first = f; last = l; giver_there = giver_there; taker_there = taker_there; quantity = taker_says r.giving a.quantity }
+  module _ (a : Announcement Q) (giver_there : a.passage.giver < 32) (taker_there : a.passage.taker < 32) where
+    pub heard : (side : Side) (r : Request R) → a.passage ≡ r.passage → Matches m a (spoken m side (m.row a.quantity) r)
+    heard Giver r e = record { passage = e; giver_there = giver_there; taker_there = taker_there; quantity = λ f. sym (m.row_told a.quantity) }
+    heard Taker r e = record { passage = e; giver_there = giver_there; taker_there = taker_there; quantity = taker_says r.giving a.quantity }
 
   -- one word more, at a place
   module _ (a : Announcement Q) (words new : Words Q) (place : ℕ) (says : (j : ℕ) → new j ≡ cond (eqb place j) (Some a) (words j)) where
@@ -174,13 +160,13 @@ module _ {Q R : Type 0} (m : Measure Q R) where
   -- a taken announcement, by the day, the list and the last words before it
   module _ (day : Day) (joining : Joining) (a : Announcement Q) (xs : List (Request R)) (room : ℕ) (words new : Words Q) where
     abbrev test : Request R → Bool
-    test = matching joining a.giver a.taker a.first a.last
+    test = matching joining a.passage
 
     abbrev change : Request R → Request R
     change = spoken m a.side (m.row a.quantity)
 
     abbrev fresh : Request R
-    fresh = unspoken a.giver a.taker a.first a.last
+    fresh = unspoken a.passage
 
     -- the words at a place, and what follows for a list
     abbrev Says : ℕ → Type 0
@@ -189,30 +175,27 @@ module _ {Q R : Type 0} (m : Measure Q R) where
     abbrev pub Goes : List (Request R) → Type 0
     Goes ys = AllFounded m new ys × ((awards : ℕ → ℕ → m.Amount) (grid : Grid m.Amount) → Volume m awards words grid xs → Volume m awards new grid ys)
 
-    module _ (giver_there : a.giver < 32) (taker_there : a.taker < 32) (founded : AllFounded m words xs) where
-      goes_joined : (k : ℕ) → first_place test xs ≡ Some k → Says k → Goes (changed_at change xs k)
+    module _ (giver_there : a.passage.giver < 32) (taker_there : a.passage.taker < 32) (founded : AllFounded m words xs) where
+      goes_joined : (k : ℕ) → position test xs ≡ Some k → Says k → Goes (changed_at change xs k)
       goes_joined k e says =
           let w = place_holds test xs k e in
           let r = w.0 in
-          let t1 = and_parts (eqb r.giver a.giver) (eqb r.taker a.taker && (eqb r.first a.first && (eqb r.last a.last && joins joining r.status))) w.2 in
-          let t2 = and_parts (eqb r.taker a.taker) (eqb r.first a.first && (eqb r.last a.last && joins joining r.status)) t1.1 in
-          let t3 = and_parts (eqb r.first a.first) (eqb r.last a.last && joins joining r.status) t2.1 in
-          let t4 = and_parts (eqb r.last a.last) (joins joining r.status) t3.1 in
-          let was = joins_open joining r.status t4.1 in
+          let parts = and_parts (same_passage r.passage a.passage) (joins joining r.status) w.2 in
+          let was = joins_open joining r.status parts.1 in
           let is = spoken_open a.side (m.row a.quantity) r in
-          let says_so = heard a giver_there taker_there a.side r (sym (eqb-true r.giver a.giver t1.0)) (sym (eqb-true r.taker a.taker t2.0)) (sym (eqb-true r.first a.first t3.0)) (sym (eqb-true r.last a.last t4.0)) in
+          let says_so = heard a giver_there taker_there a.side r (sym (passages_equal r.passage a.passage parts.0)) in
           let list : set xs k (change r) ≡ changed_at change xs k = sym (ap (changed_of change xs k) w.1) in
           subst Goes list (joined_founded a words new k says xs r (change r) w.1 was is says_so founded, joined_volume a words new k says xs r (change r) w.1 was is)
 
       goes_added : (b : Bool) → addition_refusal xs room ≡ None → has_place xs room ≡ b → Says (length xs) → Goes (added xs room (change fresh))
       goes_added true e h says =
           let is = spoken_open a.side (m.row a.quantity) fresh in
-          let says_so = heard a giver_there taker_there a.side fresh refl refl refl refl in
+          let says_so = heard a giver_there taker_there a.side fresh refl in
           let list : xs ++ (change fresh ∷ []) ≡ added xs room (change fresh) = sym (ap (λ b. cond b (xs ++ (change fresh ∷ [])) xs) h) in
           subst Goes list (added_founded a words new (length xs) says xs (change fresh) refl is says_so founded, added_volume a words new (length xs) says xs (change fresh) refl is)
       goes_added false e h says = absurd (none_some NoPlaceInList (sym e ∙ ap (λ b. cond b None (Some NoPlaceInList)) h))
 
-      goes_by : (j : Joining) (o : Option ℕ) → first_place test xs ≡ o → refusal_of j xs room o ≡ None → Says (unwrap_or o (length xs)) → Goes (list_of j xs room change (change fresh) o)
+      goes_by : (j : Joining) (o : Option ℕ) → position test xs ≡ o → refusal_of j xs room o ≡ None → Says (unwrap_or o (length xs)) → Goes (list_of j xs room change (change fresh) o)
       goes_by j (Some k) e f says = goes_joined k e says
       goes_by Unresolved None e f says = goes_added (has_place xs room) f refl says
       goes_by NotBalanced None e f says = absurd (none_some NoRequestToChange (sym f))
@@ -220,21 +203,21 @@ module _ {Q R : Type 0} (m : Measure Q R) where
     provider_there : (p : ℕ) → no_provider p ≡ None → p < 32
     provider_there p e = ltb-true p 32 (not-false (ltb p 32) (when_none (not (ltb p 32)) NoSuchProvider e))
 
-    pub goes : announce_refusal m day joining a xs room ≡ None → Says (announcement_place joining xs a.giver a.taker a.first a.last) → AllFounded m words xs → Goes (announced_list m day joining a xs room)
+    pub goes : announce_refusal m day joining a xs room ≡ None → Says (announcement_place joining xs a.passage) → AllFounded m words xs → Goes (announced_list m day joining a xs room)
     unfolding announce_refusal announced_list announcement_refusal announcement_place announcement_list
     goes e says founded =
-        let last = refusal_of joining xs room (first_place test xs) in
+        let last = refusal_of joining xs room (position test xs) in
         let parts = fronts_none (outline m day joining a) (last ∷ []) e in
-        let there = two_pass (no_provider a.giver) (no_provider a.taker) (drop 2 (outline m day joining a)) parts.0 in
-        let list = list_of joining xs room change (change fresh) (first_place test xs) in
+        let there = two_pass (no_provider a.passage.giver) (no_provider a.passage.taker) (drop 2 (outline m day joining a)) parts.0 in
+        let list = list_of joining xs room change (change fresh) (position test xs) in
         subst Goes (sym (ap (λ o. unless_refused o list xs) parts.0))
-        (goes_by (provider_there a.giver there.0) (provider_there a.taker there.1) founded joining (first_place test xs) refl (sym (alone last) ∙ parts.1) says)
+        (goes_by (provider_there a.passage.giver there.0) (provider_there a.passage.taker there.1) founded joining (position test xs) refl (sym (alone last) ∙ parts.1) says)
 
     -- a refused one leaves the list
     pub stays : (r : Refusal) → announce_refusal m day joining a xs room ≡ Some r → announced_list m day joining a xs room ≡ xs
     unfolding announce_refusal announced_list announcement_refusal announcement_list
     stays r e = stays_by (outline_refusal m day joining a) refl
       where
-        stays_by : (o : Option Refusal) → outline_refusal m day joining a ≡ o → unless_refused o (list_of joining xs room change (change fresh) (first_place test xs)) xs ≡ xs
+        stays_by : (o : Option Refusal) → outline_refusal m day joining a ≡ o → unless_refused o (list_of joining xs room change (change fresh) (position test xs)) xs ≡ xs
         stays_by (Some x) f = refl
-        stays_by None f = let last = refusal_of joining xs room (first_place test xs) in list_stays joining xs room change (change fresh) (first_place test xs) r (sym (alone last) ∙ (sym (front_passes (outline m day joining a) (last ∷ []) f) ∙ e))
+        stays_by None f = let last = refusal_of joining xs room (position test xs) in list_stays joining xs room change (change fresh) (position test xs) r (sym (alone last) ∙ (sym (front_passes (outline m day joining a) (last ∷ []) f) ∙ e))

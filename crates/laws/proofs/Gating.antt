@@ -37,18 +37,18 @@ still_agreed gate why Lapsed e = e
 
 module _ {Q R : Type 0} (m : Measure Q R) where
   -- the last word says what the request says
-  word_out : (p t : ℕ) (o : Option (Announcement Q)) (r : Request R) → Founded m o (Some r) → agreed r.status ≡ true → from_giver m p t o ≡ share m r.giver r.first r.last (m.amount (passing m r.giving)) p t
+  word_out : (p t : ℕ) (o : Option (Announcement Q)) (r : Request R) → Founded m o (Some r) → agreed r.status ≡ true → from_giver m p t o ≡ share m r.passage.giver r.passage.first r.passage.last (m.amount (passing m r.giving)) p t
   word_out p t None r f g = absurd f
   word_out p t (Some a) r f g = let q = f.quantity g in cc
 
-  word_in : (p t : ℕ) (o : Option (Announcement Q)) (r : Request R) → Founded m o (Some r) → agreed r.status ≡ true → to_taker m p t o ≡ share m r.taker r.first r.last (m.amount (passing m r.giving)) p t
+  word_in : (p t : ℕ) (o : Option (Announcement Q)) (r : Request R) → Founded m o (Some r) → agreed r.status ≡ true → to_taker m p t o ≡ share m r.passage.taker r.passage.first r.passage.last (m.amount (passing m r.giving)) p t
   word_in p t None r f g = absurd f
   word_in p t (Some a) r f g = let q = f.quantity g in cc
 
   -- another status, at which it agrees only if it agreed
   restated : (o : Option (Announcement Q)) (r : Request R) (status : Status) → (agreed status ≡ true → agreed r.status ≡ true) → Founded m o (Some r) → Founded m o (Some (given_status r status))
   restated None r status g f = f
-  restated (Some a) r status g f = record { giver = f.giver; taker = f.taker; first = f.first; last = f.last; giver_there = f.giver_there; taker_there = f.taker_there; quantity = λ e. f.quantity (g e) }
+  restated (Some a) r status g f = record { passage = f.passage; giver_there = f.giver_there; taker_there = f.taker_there; quantity = λ e. f.quantity (g e) }
 
   -- one request and the rest: h is what is held before, n after the one, l after all
   both : (h n l s s' v v' ss ss' vs vs' : m.Amount) → m.plus (m.plus n s') v ≡ m.plus (m.plus h s) v' → m.plus (m.plus l ss') vs ≡ m.plus (m.plus n ss) vs' → m.plus (m.plus l (m.plus s' ss')) (m.plus v vs) ≡ m.plus (m.plus h (m.plus s ss)) (m.plus v' vs')
@@ -66,17 +66,17 @@ module _ {Q R : Type 0} (m : Measure Q R) where
     -- one request, by its status and by the cause that its move has
     step :
         (gate : Gate) (held : Grid Q) (r : Request R) (out into : m.Amount) (status : Status) (why : Option Refusal) → cause m places admission held r ≡ why →
-        (agreed status ≡ true → out ≡ share m r.giver r.first r.last (m.amount (passing m r.giving)) p t) →
-        (agreed status ≡ true → into ≡ share m r.taker r.first r.last (m.amount (passing m r.giving)) p t) →
-        m.plus (m.plus (amounts m (cond (has_balance status) (unless_refused why (moved_holdings m held r.giver r.taker (passing m r.giving) r.first (r.last + 1)) held) held) p t) (cond (is_confirmed (judged gate why status)) out m.none)) (cond (is_confirmed status) into m.none)
+        (agreed status ≡ true → out ≡ share m r.passage.giver r.passage.first r.passage.last (m.amount (passing m r.giving)) p t) →
+        (agreed status ≡ true → into ≡ share m r.passage.taker r.passage.first r.passage.last (m.amount (passing m r.giving)) p t) →
+        m.plus (m.plus (amounts m (cond (has_balance status) (unless_refused why (moved_holdings m held r.passage.giver r.passage.taker (passing m r.giving) r.passage.first (r.passage.last + 1)) held) held) p t) (cond (is_confirmed (judged gate why status)) out m.none)) (cond (is_confirmed status) into m.none)
         ≡ m.plus (m.plus (amounts m held p t) (cond (is_confirmed status) out m.none)) (cond (is_confirmed (judged gate why status)) into m.none)
     step gate held r out into BalanceOk None e f g =
-        let new = amounts m (moved_holdings m held r.giver r.taker (passing m r.giving) r.first (r.last + 1)) p t in
-        let gone = share m r.giver r.first r.last (m.amount (passing m r.giving)) p t in
-        let come = share m r.taker r.first r.last (m.amount (passing m r.giving)) p t in
+        let new = amounts m (moved_holdings m held r.passage.giver r.passage.taker (passing m r.giving) r.passage.first (r.passage.last + 1)) p t in
+        let gone = share m r.passage.giver r.passage.first r.passage.last (m.amount (passing m r.giving)) p t in
+        let come = share m r.passage.taker r.passage.first r.passage.last (m.amount (passing m r.giving)) p t in
         let passes : m.plus gone new ≡ m.plus come (amounts m held p t) =
-        ap (λ (x : Grid m.Amount). m.plus gone (x p t)) (moved_amounts m held r.giver r.taker (passing m r.giving) r.first (r.last + 1))
-        ∙ move_passes m held places admission r.giver r.taker r.first r.last (passing m r.giving) e p t in
+        ap (λ (x : Grid m.Amount). m.plus gone (x p t)) (moved_amounts m held r.passage.giver r.passage.taker (passing m r.giving) r.passage.first (r.passage.last + 1))
+        ∙ move_passes m held places admission r.passage.giver r.passage.taker r.passage.first r.passage.last (passing m r.giving) e p t in
         neutral_right m (m.plus new out)
         ∙ (m.commutes new out
         ∙ (ap (λ x. m.plus x new) (f refl)

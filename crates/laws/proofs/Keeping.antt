@@ -1,5 +1,5 @@
 -- Each call of a day keeps what stands of it.
-use Rattle.std.proofs.Common.{◌≡◌, ℕ, ◌+◌, true, false, cond, eqb, List, [], ◌∷◌, ℤ, Some, None, Option, sym, refl, ap, ◌∙◌, subst}
+use Rattle.std.proofs.Common.{◌≡◌, ℕ, ◌+◌, true, false, cond, eqb, List, [], ◌∷◌, ℤ, Some, None, Option, Bor, sym, refl, ap, ◌∙◌, subst}
 use mathlib.Core.Path.{fun_ext}
 use Rattle.std.specs.List.{slice_get}
 use Rattle.quantity.specs.Measure.{Measure}
@@ -10,6 +10,7 @@ use Rattle.refusals.specs.First.{unless_refused}
 use Rattle.requests.specs.declared.request.Request.{Request}
 use Rattle.requests.specs.Numbers.{status_number}
 use Rattle.requests.specs.Announcing.{announcement_place}
+use Rattle.awards.specs.declared.awarded.Award.{Award}
 use Rattle.awards.specs.Sheets.{SheetView, blank_view}
 use Rattle.awards.specs.Awards.{award_after, award_sheet}
 use Rattle.gates.specs.declared.gate.Gate.{Gate}
@@ -21,14 +22,12 @@ use Rattle.day.specs.Announcing.{at_minute, announced_list, announced_day}
 use Rattle.day.specs.Opening.{day_length, opened_day}
 use Rattle.day.specs.Questions.{question_refusal, status_refusal, status_of}
 use Rattle.day.specs.Gating.{gate_refusal}
-use Rattle.day_calls.specs.declared.calls.Prices.{Prices}
 use Rattle.day_calls.specs.declared.calls.DayCall.{DayCall}
-use Rattle.day_calls.specs.declared.calls.DayCall.TheVariants.{Open, Award, Announce, Gate as GateCall, Holding, Missing, Status}
-use Rattle.day_calls.specs.declared.calls.Answer.{Answer}
+use Rattle.day_calls.specs.declared.calls.DayCall.TheVariants.{Open, Award as AwardCall, Announce, Gate as GateCall, Holding, Missing, Status}
 use Rattle.day_calls.specs.declared.desk.Stage.{Stage}
 use Rattle.day_calls.specs.declared.desk.Stage.TheVariants.{Unopened, Announcing as InAnnouncing, Reconciling as InReconciling, Intraday as InIntraday}
-use Rattle.day_calls.specs.Answers.{Said, numbered, said, unless, not_in_stage}
-use Rattle.day_calls.specs.Days.{DayState, price_list, if_unopened, in_first, before_gate, once_opened, joining_before, same_stage, next_stage, missing_tenths_in, open_refused, award_refused, announce_refused, answered, stage_after, held_after, requests_after, sheet_after}
+use Rattle.day_calls.specs.Answers.{Said, Outcome, numbered, said, unless, not_in_stage}
+use Rattle.day_calls.specs.Days.{DayState, if_unopened, in_first, before_gate, once_opened, joining_before, same_stage, next_stage, missing_tenths_in, open_refused, award_refused, announce_refused, answered, stage_after, held_after, requests_after, sheet_after}
 use Rattle.laws.specs.Volumes.{Event, award_of, earning_of}
 use Rattle.laws.proofs.Answers.{tells_awarded, tells_placed, awarded_by, placed_by, unless_award, unless_place}
 use Rattle.laws.proofs.Stands.{Volume, Earnings, AllFounded, StandsAt, awards_of, earns_of, words_of, awards_more, earns_more, word_more, no_award, no_word, idle}
@@ -58,7 +57,7 @@ module _ {Q R : Type 0} (m : Measure Q R) (tenths : Q → ℕ → ℕ) (directio
     same_runs First day x = record { volume = x.volume; earnings = x.earnings; founded = x.founded; length = x.length }
     same_runs Second day x = record { volume = x.volume; earnings = x.earnings; founded = x.founded; length = x.length }
 
-  module _ (s : DayState Q R) (h : List (Event Q)) (answer : Answer Q) where
+  module _ (s : DayState Q R) (h : List (Event Q)) (answer : Outcome Q) where
     abbrev grid : Grid m.Amount
     grid = amounts m s.held
 
@@ -103,17 +102,17 @@ module _ {Q R : Type 0} (m : Measure Q R) (tenths : Q → ℕ → ℕ) (directio
     open_kept (InIntraday w) number quarters x e = out_of_stage (Open number quarters) e (InIntraday w) x
 
     -- an award
-    module _ (provider block : ℕ) (q : Q) (prices : Prices) where
+    module _ (a : Award Q) (prices : Bor (List ℕ)) where
       abbrev award : DayCall Q
-      award = Award provider block q prices
+      award = AwardCall a prices
 
       abbrev held_by : Day → Grid m.Amount
-      held_by day = award_after m s.held s.places s.admission directions day.quarters s.sheet.awards provider block q (price_list prices)
+      held_by day = award_after m s.held s.places s.admission directions day.quarters s.sheet.awards a.provider a.block a.quantity prices.now
 
       abbrev sheet_by : Day → SheetView
-      sheet_by day = award_sheet m s.held s.places s.admission tenths directions day.quarters provider block q (price_list prices) s.sheet
+      sheet_by day = award_sheet m s.held s.places s.admission tenths directions day.quarters a.provider a.block a.quantity prices.now s.sheet
 
-      award_by : (day : Day) (o : Option Refusal) → award_refused m tenths directions s day provider block q prices ≡ o → said answer ≡ unless o (numbered (0 ∷ (2 ∷ []))) → Before (same_stage First day) → StandsAt m tenths directions (made award ∷ h) (same_stage First day) (held_by day) s.requests (sheet_by day)
+      award_by : (day : Day) (o : Option Refusal) → award_refused m tenths directions s day a prices.now ≡ o → said answer ≡ unless o (numbered (0 ∷ (2 ∷ []))) → Before (same_stage First day) → StandsAt m tenths directions (made award ∷ h) (same_stage First day) (held_by day) s.requests (sheet_by day)
       award_by day None e says x =
           let call = made award in
           let hh = call ∷ h in
@@ -126,24 +125,24 @@ module _ {Q R : Type 0} (m : Measure Q R) (tenths : Q → ℕ → ℕ) (directio
             volume =
                 subst (λ w. Volume m (awards_of m tenths directions hh quarters) w (held_by day) s.requests) (sym words)
                 (subst (λ a. Volume m a (words_of m tenths directions h) (held_by day) s.requests) (sym awards)
-                (award_volume m s.held s.places s.admission tenths directions quarters s.sheet provider block q (price_list prices) (awards_of m tenths directions h quarters) (words_of m tenths directions h) s.requests x.length e x.volume));
+                (award_volume m s.held s.places s.admission tenths directions quarters s.sheet a.provider a.block a.quantity prices.now (awards_of m tenths directions h quarters) (words_of m tenths directions h) s.requests x.length e x.volume));
             earnings =
                 subst (λ a. Earnings m a (sheet_by day)) (sym earns)
-                (award_earnings m s.held s.places s.admission tenths directions quarters s.sheet provider block q (price_list prices) (earns_of m tenths directions h quarters) e x.earnings);
+                (award_earnings m s.held s.places s.admission tenths directions quarters s.sheet a.provider a.block a.quantity prices.now (earns_of m tenths directions h quarters) e x.earnings);
             founded = subst (λ w. AllFounded m w s.requests) (sym words) x.founded;
             length = x.length;
             quiet = tt;
           }
       award_by day (Some r) e says x =
-          let same = award_stays m s.held s.places s.admission tenths directions day.quarters s.sheet provider block q (price_list prices) r e in
+          let same = award_stays m s.held s.places s.admission tenths directions day.quarters s.sheet a.provider a.block a.quantity prices.now r e in
           let y = rests_unless award (Some r) (numbered (0 ∷ (1 ∷ []))) says refl (λ k. refl) (same_stage First day) x in
           rw (same.0, same.1) y
 
       award_kept :
-          (stage : Stage) → Before stage → said answer ≡ in_first stage (λ day. unless (award_refused m tenths directions s day provider block q prices) (numbered (0 ∷ (2 ∷ [])))) not_in_stage →
+          (stage : Stage) → Before stage → said answer ≡ in_first stage (λ day. unless (award_refused m tenths directions s day a prices.now) (numbered (0 ∷ (2 ∷ [])))) not_in_stage →
           StandsAt m tenths directions (made award ∷ h) stage (in_first stage held_by grid) s.requests (in_first stage sheet_by s.sheet)
       award_kept Unopened x e = out_of_stage award e Unopened x
-      award_kept (InAnnouncing w) x e = award_by w.day (award_refused m tenths directions s w.day provider block q prices) refl e x
+      award_kept (InAnnouncing w) x e = award_by w.day (award_refused m tenths directions s w.day a prices.now) refl e x
       award_kept (InReconciling w) x e = out_of_stage award e (InReconciling w) x
       award_kept (InIntraday w) x e = out_of_stage award e (InIntraday w) x
 
@@ -153,7 +152,7 @@ module _ {Q R : Type 0} (m : Measure Q R) (tenths : Q → ℕ → ℕ) (directio
       list_by gate day = announced_list m day (joining_before gate) a s.requests s.room
 
       abbrev place_by : Gate → ℕ
-      place_by gate = announcement_place (joining_before gate) s.requests a.giver a.taker a.first a.last
+      place_by gate = announcement_place (joining_before gate) s.requests a.passage
 
       announce_by : (gate : Gate) (day : Day) (o : Option Refusal) → announce_refused m tenths directions s gate day a ≡ o → said answer ≡ unless o (numbered (0 ∷ (3 ∷ (place_by gate ∷ [])))) → Before (same_stage gate day) → StandsAt m tenths directions (made (Announce a) ∷ h) (same_stage gate (announced_day day a o)) grid (list_by gate day) s.sheet
       announce_by gate day None e says x =
@@ -232,7 +231,7 @@ module _ {Q R : Type 0} (m : Measure Q R) (tenths : Q → ℕ → ℕ) (directio
         StandsAt m tenths directions (made call ∷ h) (stage_after m tenths directions s call) (held_after m tenths directions s call) (requests_after m tenths directions s call) (sheet_after m tenths directions s call)
     unfolding answered stage_after held_after requests_after sheet_after
     keeps (Open number quarters) x e = open_kept s.stage number quarters x e
-    keeps (Award provider block q prices) x e = award_kept provider block q prices s.stage x e
+    keeps (AwardCall a prices) x e = award_kept a prices s.stage x e
     keeps (Announce a) x e = announce_kept a s.stage x e
     keeps (GateCall minute) x e = gate_kept minute s.stage x e
     keeps (Holding p t) x e = question_kept (Holding p t) s.stage (λ day. question_refusal day p t) (record { numbers = 0 ∷ (5 ∷ []); quantity = Some (held_at m s.held p t) }) refl (λ k. refl) x e

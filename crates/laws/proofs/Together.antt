@@ -31,8 +31,8 @@ module _ {Q R : Type 0} (m : Measure Q R) where
   word_even : (t : ℕ) (o : Option (Announcement Q)) (r : Request R) → Founded m o (Some r) → sum_below m (λ p. from_giver m p t o) 32 ≡ sum_below m (λ p. to_taker m p t o) 32
   word_even t None r f = absurd f
   word_even t (Some a) r f =
-      let b = leb a.first t && ltb t (a.last + 1) in
-      below_one m a.giver b (m.amount a.quantity) 32 f.giver_there ∙ sym (below_one m a.taker b (m.amount a.quantity) 32 f.taker_there)
+      let b = leb a.passage.first t && ltb t (a.passage.last + 1) in
+      below_one m a.passage.giver b (m.amount a.quantity) 32 f.giver_there ∙ sym (below_one m a.passage.taker b (m.amount a.quantity) 32 f.taker_there)
 
   all_even : (words : Words Q) (t k : ℕ) (rs : List (Request R)) → ((j i : ℕ) → j ≡ k + i → Founded m (words j) (slice_get rs i)) → sum_below m (λ p. sum_from m (out_at m words p t) k rs) 32 ≡ sum_below m (λ p. sum_from m (in_at m words p t) k rs) 32
   unfolding sum_from

@@ -1,5 +1,5 @@
 -- What the calls of a day awarded, announced and earned, counted over its history: the calls with their answers, the newest first.
-use Rattle.std.specs.Prelude.{ℕ, ◌+◌, Bool, true, false, cond, ◌&&◌, List, [], ◌∷◌, Some, None, Option, ◌==◌}
+use Rattle.std.specs.Prelude.{ℕ, ◌+◌, Bool, true, false, cond, ◌&&◌, List, [], ◌∷◌, Some, None, Option, Ok, Err, ◌==◌}
 use Rattle.quantity.specs.Measure.{Measure}
 use Rattle.span_moves.specs.Moves.{share}
 use Rattle.awards.specs.Blocks.{count_of_block, in_block}
@@ -10,38 +10,35 @@ use Rattle.requests.specs.declared.request.Request.{Request}
 use Rattle.day.specs.declared.announcing.Announcement.{Announcement}
 use Rattle.day_calls.specs.declared.calls.DayCall.{DayCall}
 use Rattle.day_calls.specs.declared.calls.DayCall.TheVariants.{Open, Award, Announce, Gate, Holding, Missing, Status as StatusCall}
-use Rattle.day_calls.specs.declared.calls.Answer.{Answer}
-use Rattle.day_calls.specs.declared.calls.Answer.TheVariants.{Opened, Awarded, Placed, GatePassed, Held, Lacking, Standing, Refused, NotCalled}
-use Rattle.day_calls.specs.Days.{price_list}
+use Rattle.day_calls.specs.declared.calls.Answer.TheVariants.{Opened, Awarded, Placed, GatePassed, Held, Lacking, Standing}
+use Rattle.day_calls.specs.Answers.{Outcome}
 use Rattle.laws.specs.Sums.{sum_of, sum_from}
 
--- a call with what it answered
+-- a call with what it came to
 pub record Event (Q : Type 0) : Type 0 where
   pub call : DayCall Q
-  pub answer : Answer Q
+  pub answer : Outcome Q
 
-abbrev pub is_awarded : {Q : Type 0} → Answer Q → Bool
-is_awarded Opened = false
-is_awarded Awarded = true
-is_awarded (Placed place) = false
-is_awarded GatePassed = false
-is_awarded (Held q) = false
-is_awarded (Lacking x) = false
-is_awarded (Standing status) = false
-is_awarded (Refused refusal) = false
-is_awarded (NotCalled why) = false
+abbrev pub is_awarded : {Q : Type 0} → Outcome Q → Bool
+is_awarded (Ok Opened) = false
+is_awarded (Ok Awarded) = true
+is_awarded (Ok (Placed place)) = false
+is_awarded (Ok GatePassed) = false
+is_awarded (Ok (Held q)) = false
+is_awarded (Ok (Lacking x)) = false
+is_awarded (Ok (Standing status)) = false
+is_awarded (Err why) = false
 
 -- whether the answer is that an announcement was taken at this place
-abbrev pub is_placed : {Q : Type 0} → ℕ → Answer Q → Bool
-is_placed k Opened = false
-is_placed k Awarded = false
-is_placed k (Placed place) = place == k
-is_placed k GatePassed = false
-is_placed k (Held q) = false
-is_placed k (Lacking x) = false
-is_placed k (Standing status) = false
-is_placed k (Refused refusal) = false
-is_placed k (NotCalled why) = false
+abbrev pub is_placed : {Q : Type 0} → ℕ → Outcome Q → Bool
+is_placed k (Ok Opened) = false
+is_placed k (Ok Awarded) = false
+is_placed k (Ok (Placed place)) = place == k
+is_placed k (Ok GatePassed) = false
+is_placed k (Ok (Held q)) = false
+is_placed k (Ok (Lacking x)) = false
+is_placed k (Ok (Standing status)) = false
+is_placed k (Err why) = false
 
 abbrev pub is_confirmed : Status → Bool
 is_confirmed WaitingForCounterpart = false
@@ -58,7 +55,7 @@ module _ {Q R : Type 0} (m : Measure Q R) (tenths : Q → ℕ → ℕ) (directio
   -- what a call, if it is an award, awards a provider in a quarter: its quantity in each quarter of its block
   abbrev pub award_of : ℕ → ℕ → DayCall Q → m.Amount
   award_of p t (Open number length) = m.none
-  award_of p t (Award provider block q prices) = cond (p == provider && in_block quarters block t) (m.amount q) m.none
+  award_of p t (Award a prices) = cond (p == a.provider && in_block quarters a.block t) (m.amount a.quantity) m.none
   award_of p t (Announce a) = m.none
   award_of p t (Gate minute) = m.none
   award_of p t (Holding x u) = m.none
@@ -76,7 +73,7 @@ module _ {Q R : Type 0} (m : Measure Q R) (tenths : Q → ℕ → ℕ) (directio
   -- what a call, if it is an award, earns a provider
   abbrev pub earning_of : ℕ → DayCall Q → ℕ
   earning_of p (Open number length) = 0
-  earning_of p (Award provider block q prices) = cond (p == provider) (award_earns (tenths q) (price_list prices) directions (count_of_block quarters block)) 0
+  earning_of p (Award a prices) = cond (p == a.provider) (award_earns (tenths a.quantity) prices.now directions (count_of_block quarters a.block)) 0
   earning_of p (Announce a) = 0
   earning_of p (Gate minute) = 0
   earning_of p (Holding x u) = 0
@@ -94,7 +91,7 @@ module _ {Q R : Type 0} (m : Measure Q R) (tenths : Q → ℕ → ℕ) (directio
 -- the announcement of a call, if it is one
 abbrev pub announcement_of : {Q : Type 0} → DayCall Q → Option (Announcement Q)
 announcement_of (Open number length) = None
-announcement_of (Award provider block q prices) = None
+announcement_of (Award a prices) = None
 announcement_of (Announce a) = Some a
 announcement_of (Gate minute) = None
 announcement_of (Holding x u) = None
@@ -110,11 +107,11 @@ module _ {Q R : Type 0} (m : Measure Q R) where
   -- what an announcement lets pass from its giver, or to its taker, in a quarter of its span
   abbrev pub from_giver : ℕ → ℕ → Option (Announcement Q) → m.Amount
   from_giver p t None = m.none
-  from_giver p t (Some a) = share m a.giver a.first a.last (m.amount a.quantity) p t
+  from_giver p t (Some a) = share m a.passage.giver a.passage.first a.passage.last (m.amount a.quantity) p t
 
   abbrev pub to_taker : ℕ → ℕ → Option (Announcement Q) → m.Amount
   to_taker p t None = m.none
-  to_taker p t (Some a) = share m a.taker a.first a.last (m.amount a.quantity) p t
+  to_taker p t (Some a) = share m a.passage.taker a.passage.first a.passage.last (m.amount a.quantity) p t
 
   -- what passed from a provider, and to it, in a quarter: over the requests that are Confirmed, by what was announced last
   abbrev pub sent_at : List (Event Q) → ℕ → ℕ → ℕ → Request R → m.Amount

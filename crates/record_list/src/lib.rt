@@ -1,7 +1,6 @@
 #![tactic(auto)]
 
-pub mod calls;
 pub mod interface;
 pub mod list;
-pub mod records;
+pub mod slots;
 pub mod stored;

@@ -1,65 +1,81 @@
-ghost use Rattle.std.specs.Prelude.{◌≡◌, [], length, take, IfOk};
+ghost use Rattle.std.specs.Prelude.{◌≡◌, [], vec_capacity, IfOk};
 
 use crate::interface::Records;
 use std::alloc::{AllocError, Global};
 
-/// A list that owns its memory: its contents are the first `used` slots, or all where there are fewer.
+/// A list that owns its memory, for as many entries as were asked for when it was made.
 #[derive(Drop)]
 pub struct StoredList<E: Copy> {
-    slots: Vec<E>,
-    used: usize,
+    entries: Vec<E>,
 }
 
 impl<E: Copy> StoredList<E> {
-    /// The empty list of this many places. The slots are filled with `blank` until they are used.
-    pub fn new(heap: Global, room: usize, blank: E) -> Result<StoredList<E>, AllocError>
-        ensures { IfOk result (λ l. (take l.used l.slots.items ≡ []) × (length l.slots.items ≡ room)) }
+    /// The empty list of this many places, or want of memory.
+    pub fn new(heap: Global, room: usize) -> Result<StoredList<E>, AllocError>
+        ensures contents { IfOk result (λ l. l.entries.items ≡ []) }
+        ensures places { IfOk result (λ l. vec_capacity l.entries ≡ room) }
     {
-        let mut slots = Vec::new(heap);
-        slots.resize(room, blank)?;
-        Ok(StoredList { slots, used: 0 })
+        let entries = Vec::with_capacity(heap, room)?;
+        Ok(StoredList { entries })
     }
 }
 
 impl<E: Copy> Records for StoredList<E> {
     type Record = E;
 
-    ghost contents = { λ l. take l.used l.slots.items };
+    ghost contents = { λ l. l.entries.items };
 
-    ghost places = { λ l. length l.slots.items };
+    ghost places = { λ l. vec_capacity l.entries };
 
     fn count(&self) -> usize {
-        let room = self.slots.len();
-        if self.used < room { self.used } else { room }
+        self.entries.len()
     }
 
     fn room(&self) -> usize {
-        self.slots.len()
+        self.entries.capacity()
     }
 
     fn at(&self, place: usize) -> Option<E> {
-        if place < self.count() {
-            Some(self.slots[place])
-        } else {
-            None
-        }
+        self.entries.get(place).copied()
     }
 
     fn replace(&mut self, place: usize, item: E) -> bool {
-        if place >= self.count() {
+        if place >= self.entries.len() {
             return false;
         }
-        self.slots[place] = item;
+        self.entries[place] = item;
         true
     }
 
     fn append(&mut self, item: E) -> Option<usize> {
-        let place = self.used;
-        if place >= self.slots.len() {
+        let place = self.entries.len();
+        if place >= self.entries.capacity() {
             return None;
         }
-        self.slots[place] = item;
-        self.used = place + 1;
+        self.entries.push_reserved(item);
         Some(place)
+    }
+}
+
+#[cfg(test)]
+mod tests {
+    use super::*;
+    use std::test::Fail;
+
+    #[test]
+    fn grows_within_its_room(rt: HostRuntime) -> Result<(), Fail> {
+        let mut list: StoredList<u8> = StoredList::new(rt.alloc(), 2)?;
+        assert_eq!(rt; list.count(), 0);
+        assert_eq!(rt; list.room(), 2);
+        assert_eq!(rt; list.at(0), None);
+        assert_eq!(rt; list.append(7), Some(0));
+        assert_eq!(rt; list.append(8), Some(1));
+        assert_eq!(rt; list.append(9), None);
+        assert!(rt; list.replace(0, 5));
+        assert!(rt; !list.replace(2, 5));
+        assert_eq!(rt; list.at(0), Some(5));
+        assert_eq!(rt; list.at(1), Some(8));
+        assert_eq!(rt; list.count(), 2);
+        Ok(())
     }
 }

@@ -1,16 +1,17 @@
 -- What an announcement answers and what it makes of the list.
 use Rattle.std.specs.Prelude.{ℕ, min, Bool, cond, List, [], ◌∷◌, ◌++◌, length, Some, None, Option, nat_lt, slice_set}
-use Rattle.std.specs.List.{slice_get}
+use Rattle.std.specs.List.{slice_get, position}
 use Rattle.std.specs.Option.{unwrap_or}
 use Rattle.quantity.specs.Measure.{Measure}
 use Rattle.refusals.specs.declared.refusal.Refusal.{Refusal}
 use Rattle.refusals.specs.declared.refusal.Refusal.TheVariants.{NoRequestToChange, NoPlaceInList}
 use Rattle.requests.specs.declared.request.Side.{Side}
 use Rattle.requests.specs.declared.request.Status.TheVariants.{WaitingForCounterpart}
+use Rattle.requests.specs.declared.request.Passage.{Passage}
 use Rattle.requests.specs.declared.request.Request.{Request}
 use Rattle.requests.specs.declared.finding.Joining.{Joining}
 use Rattle.requests.specs.declared.finding.Joining.TheVariants.{Unresolved, NotBalanced}
-use Rattle.requests.specs.Requests.{matching, first_place, spoken}
+use Rattle.requests.specs.Requests.{matching, spoken}
 
 -- the list with one of its elements changed
 abbrev pub changed_of : {E : Type 0} → (E → E) → List E → ℕ → Option E → List E
@@ -21,8 +22,8 @@ abbrev pub changed_at : {E : Type 0} → (E → E) → List E → ℕ → List E
 changed_at f xs i = changed_of f xs i (slice_get xs i)
 
 -- a request in which nobody has announced yet
-abbrev pub unspoken : {R : Type 0} → ℕ → ℕ → ℕ → ℕ → Request R
-unspoken giver taker first last = record { giver = giver; taker = taker; first = first; last = last; giving = None; taking = None; status = WaitingForCounterpart }
+abbrev pub unspoken : {R : Type 0} → Passage → Request R
+unspoken passage = record { passage = passage; giving = None; taking = None; status = WaitingForCounterpart }
 
 -- whether there is a place that was never used: of those lent, at most 4,096
 abbrev pub has_place : {E : Type 0} → List E → ℕ → Bool
@@ -47,13 +48,13 @@ list_of Unresolved xs places change new None = added xs places new
 list_of NotBalanced xs places change new None = xs
 
 module _ {R : Type 0} (joining : Joining) (xs : List (Request R)) where
-  unfoldable pub announcement_refusal : ℕ → ℕ → ℕ → ℕ → ℕ → Option Refusal
-  announcement_refusal places giver taker first last = refusal_of joining xs places (first_place (matching joining giver taker first last) xs)
+  unfoldable pub announcement_refusal : ℕ → Passage → Option Refusal
+  announcement_refusal places passage = refusal_of joining xs places (position (matching joining passage) xs)
 
   -- the request that is joined, or the next place
-  unfoldable pub announcement_place : ℕ → ℕ → ℕ → ℕ → ℕ
-  announcement_place giver taker first last = unwrap_or (first_place (matching joining giver taker first last) xs) (length xs)
+  unfoldable pub announcement_place : Passage → ℕ
+  announcement_place passage = unwrap_or (position (matching joining passage) xs) (length xs)
 
-unfoldable pub announcement_list : {Q R : Type 0} (m : Measure Q R) → Joining → List (Request R) → ℕ → Side → ℕ → ℕ → ℕ → ℕ → Q → List (Request R)
-announcement_list m joining xs places side giver taker first last q =
-    list_of joining xs places (spoken m side (m.row q)) (spoken m side (m.row q) (unspoken giver taker first last)) (first_place (matching joining giver taker first last) xs)
+unfoldable pub announcement_list : {Q R : Type 0} (m : Measure Q R) → Joining → List (Request R) → ℕ → Side → Passage → Q → List (Request R)
+announcement_list m joining xs places side passage q =
+    list_of joining xs places (spoken m side (m.row q)) (spoken m side (m.row q) (unspoken passage)) (position (matching joining passage) xs)

@@ -1,10 +1,11 @@
 -- What requests say, and which of them an announcement joins.
-use Rattle.std.specs.Prelude.{ℕ, suc, Bool, true, false, cond, ◌&&◌, List, [], ◌∷◌, Some, None, Option, ◌==◌}
+use Rattle.std.specs.Prelude.{Bool, true, false, cond, ◌&&◌, Some, None, Option, ◌==◌}
 use Rattle.quantity.specs.Measure.{Measure}
 use Rattle.requests.specs.declared.request.Side.{Side}
 use Rattle.requests.specs.declared.request.Side.TheVariants.{Giver, Taker}
 use Rattle.requests.specs.declared.request.Status.{Status}
 use Rattle.requests.specs.declared.request.Status.TheVariants.{WaitingForCounterpart, BalanceOk, BalanceError, Confirmed, Rejected, Waiting, Accepted, Declined, Lapsed}
+use Rattle.requests.specs.declared.request.Passage.{Passage}
 use Rattle.requests.specs.declared.request.Request.{Request}
 use Rattle.requests.specs.declared.finding.Joining.{Joining}
 use Rattle.requests.specs.declared.finding.Joining.TheVariants.{Unresolved, NotBalanced}
@@ -22,23 +23,18 @@ joins j Accepted = false
 joins j Declined = false
 joins j Lapsed = false
 
--- whether a request is of this giver, taker and span and may be joined
-abbrev pub matching : {R : Type 0} → Joining → ℕ → ℕ → ℕ → ℕ → Request R → Bool
-matching j giver taker first last r = r.giver == giver && (r.taker == taker && (r.first == first && (r.last == last && joins j r.status)))
+-- whether giver, taker and span are the same
+abbrev pub same_passage : Passage → Passage → Bool
+same_passage p q = p.giver == q.giver && (p.taker == q.taker && (p.first == q.first && p.last == q.last))
+
+-- whether a request is of this passage and may be joined
+abbrev pub matching : {R : Type 0} → Joining → Passage → Request R → Bool
+matching j p r = same_passage r.passage p && joins j r.status
 
 -- whether there is one of which a test holds
 abbrev pub holds_of : {E : Type 0} → (E → Bool) → Option E → Bool
 holds_of test None = false
 holds_of test (Some x) = test x
-
-abbrev pub later : Option ℕ → Option ℕ
-later None = None
-later (Some place) = Some (suc place)
-
--- the first place of which a test holds
-unfoldable pub first_place : {E : Type 0} → (E → Bool) → List E → Option ℕ
-first_place test [] = None
-first_place test (x ∷ xs) = cond (test x) (Some 0) (later (first_place test xs))
 
 module _ {Q R : Type 0} (m : Measure Q R) where
   -- one side has announced, both have announced equal quantities, or unequal ones
@@ -49,5 +45,5 @@ module _ {Q R : Type 0} (m : Measure Q R) where
 
   -- a request after a side has announced a quantity of this row
   abbrev pub spoken : Side → R → Request R → Request R
-  spoken Giver row r = record { giver = r.giver; taker = r.taker; first = r.first; last = r.last; giving = Some row; taking = r.taking; status = balance (Some row) r.taking }
-  spoken Taker row r = record { giver = r.giver; taker = r.taker; first = r.first; last = r.last; giving = r.giving; taking = Some row; status = balance r.giving (Some row) }
+  spoken Giver row r = record { passage = r.passage; giving = Some row; taking = r.taking; status = balance (Some row) r.taking }
+  spoken Taker row r = record { passage = r.passage; giving = r.giving; taking = Some row; status = balance r.giving (Some row) }

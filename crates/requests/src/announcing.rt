@@ -4,7 +4,7 @@ ghost use Rattle.requests.specs.Requests.{spoken};
 ghost use Rattle.requests.specs.Announcing.{changed_at, unspoken, addition_refusal, added, announcement_refusal, announcement_place, announcement_list};
 
 use crate::finding::{Joining, find_request};
-use crate::request::{Request, Side, Status};
+use crate::request::{Passage, Request, Side, Status};
 use crate::words::announced;
 use quantity::interface::Quantity;
 use record_list::interface::Records;
@@ -44,24 +44,22 @@ fn add_request<R: Copy, L: Records<Record = Request<R>>>(
     list.append(request).ok_or(Refusal::NoPlaceInList)
 }
 
-/// Makes an announcement: it joins a request of its giver, taker and span, or becomes a new one where every unresolved
+/// Makes an announcement: it joins a request of its passage, or becomes a new one where every unresolved
 /// request may be joined.
+#[tactic(auto, unfolding(crate::specs::Announcing::announcement_refusal, crate::specs::Announcing::announcement_place, crate::specs::Announcing::announcement_list))]
 pub fn put_announcement<Q: Quantity, L: Records<Record = Request<Q::Row>>>(
     list: &mut L,
     joining: Joining,
     side: Side,
-    giver: u8,
-    taker: u8,
-    first: u8,
-    last: u8,
+    passage: Passage,
     quantity: Q,
 ) -> Result<usize, Refusal>
-    ensures answer { result_err result ≡ announcement_refusal joining (L.Records.contents list.old) (L.Records.places list.old) giver taker first last }
-    ensures place { IfOk result (λ p. p ≡ announcement_place joining (L.Records.contents list.old) giver taker first last) }
-    ensures contents { L.Records.contents list.new ≡ announcement_list Q.Quantity.measure joining (L.Records.contents list.old) (L.Records.places list.old) side giver taker first last quantity }
+    ensures answer { result_err result ≡ announcement_refusal joining (L.Records.contents list.old) (L.Records.places list.old) passage }
+    ensures place { IfOk result (λ p. p ≡ announcement_place joining (L.Records.contents list.old) passage) }
+    ensures contents { L.Records.contents list.new ≡ announcement_list Q.Quantity.measure joining (L.Records.contents list.old) (L.Records.places list.old) side passage quantity }
     ensures places { L.Records.places list.new ≡ L.Records.places list.old }
 {
-    if let Some(place) = find_request(list, joining, giver, taker, first, last) {
+    if let Some(place) = find_request(list, joining, passage) {
         join_request(list, place, side, quantity);
         return Ok(place);
     }
@@ -69,10 +67,7 @@ pub fn put_announcement<Q: Quantity, L: Records<Record = Request<Q::Row>>>(
         Joining::NotBalanced => Err(Refusal::NoRequestToChange),
         Joining::Unresolved => {
             let unspoken = Request {
-                giver,
-                taker,
-                first,
-                last,
+                passage,
                 giving: None,
                 taking: None,
                 status: Status::WaitingForCounterpart,

@@ -1,12 +1,12 @@
 ghost use Rattle.std.specs.Prelude.{◌≡◌};
-ghost use Rattle.std.specs.List.{slice_get};
-ghost use Rattle.requests.specs.Requests.{joins, matching, holds_of, first_place};
+ghost use Rattle.std.specs.List.{slice_get, position};
+ghost use Rattle.requests.specs.Requests.{joins, matching, holds_of};
 
-use crate::request::{Request, Status};
+use crate::request::{Passage, Request, Status};
 use record_list::interface::Records;
 
 /// Which requests an announcement may join.
-#[derive(Clone, Copy)]
+#[derive(Clone, Copy, PartialEq, Eq, Debug)]
 pub enum Joining {
     /// Every unresolved one.
     Unresolved,
@@ -18,55 +18,34 @@ pub enum Joining {
 pub fn may_join(joining: Joining, status: Status) -> bool
     ensures { result ≡ joins joining status }
 {
-    match status {
-        Status::WaitingForCounterpart | Status::BalanceError => true,
-        Status::BalanceOk => match joining {
-            Joining::Unresolved => true,
-            Joining::NotBalanced => false,
-        },
-        _ => false,
-    }
+    matches!(
+        (joining, status),
+        (_, Status::WaitingForCounterpart | Status::BalanceError)
+            | (Joining::Unresolved, Status::BalanceOk)
+    )
 }
 
-// Whether the request at a place is of this giver, taker and span and may be joined.
+// Whether the request at a place is of this passage and may be joined.
 fn is_match<R: Copy, L: Records<Record = Request<R>>>(
     list: &L,
     place: usize,
     joining: Joining,
-    giver: u8,
-    taker: u8,
-    first: u8,
-    last: u8,
+    passage: Passage,
 ) -> bool
-    ensures { result ≡ holds_of (matching joining giver taker first last) (slice_get (L.Records.contents list.now) place) }
+    ensures { result ≡ holds_of (matching joining passage) (slice_get (L.Records.contents list.now) place) }
 {
-    match list.at(place) {
-        Some(request) => {
-            request.giver == giver
-                && request.taker == taker
-                && request.first == first
-                && request.last == last
-                && may_join(joining, request.status)
-        }
-        None => false,
-    }
+    list.at(place).is_some_and(|request| {
+        request.passage == passage && may_join(joining, request.status)
+    })
 }
 
-/// The place of the first request of this giver, taker and span that may be joined.
+/// The place of the first request of this passage that may be joined.
 pub fn find_request<R: Copy, L: Records<Record = Request<R>>>(
     list: &L,
     joining: Joining,
-    giver: u8,
-    taker: u8,
-    first: u8,
-    last: u8,
+    passage: Passage,
 ) -> Option<usize>
-    ensures { result ≡ first_place (matching joining giver taker first last) (L.Records.contents list.now) }
+    ensures { result ≡ position (matching joining passage) (L.Records.contents list.now) }
 {
-    for place in 0..list.count() {
-        if is_match(list, place, joining, giver, taker, first, last) {
-            return Some(place);
-        }
-    }
-    None
+    (0..list.count()).find(|&place| is_match(list, place, joining, passage))
 }

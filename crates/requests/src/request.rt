@@ -26,13 +26,19 @@ pub enum Status {
     Lapsed,
 }
 
-/// A request to pass volume from a giver to a taker over a span of quarters, both ends included.
-#[derive(Clone, Copy)]
-pub struct Request<R: Copy> {
+/// Who passes volume to whom, and over which span of quarters, both ends included.
+#[derive(Clone, Copy, PartialEq, Eq, Debug)]
+pub struct Passage {
     pub giver: u8,
     pub taker: u8,
     pub first: u8,
     pub last: u8,
+}
+
+/// A request to pass volume from a giver to a taker over a span of quarters.
+#[derive(Clone, Copy)]
+pub struct Request<R: Copy> {
+    pub passage: Passage,
     /// The row of the quantity that the giver announced last, if it did.
     pub giving: Option<R>,
     /// The row of the quantity that the taker announced last, if it did.

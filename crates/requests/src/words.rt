@@ -8,15 +8,13 @@ use quantity::interface::Quantity;
 pub fn balance_of<Q: Quantity>(giving: Option<Q::Row>, taking: Option<Q::Row>) -> Status
     ensures { result ≡ balance Q.Quantity.measure giving taking }
 {
-    match (giving, taking) {
-        (Some(given), Some(taken)) => {
-            if Q::of_row(given).equals(Q::of_row(taken)) {
-                Status::BalanceOk
-            } else {
-                Status::BalanceError
-            }
-        }
-        _ => Status::WaitingForCounterpart,
+    let (Some(given), Some(taken)) = (giving, taking) else {
+        return Status::WaitingForCounterpart;
+    };
+    if Q::of_row(given).equals(Q::of_row(taken)) {
+        Status::BalanceOk
+    } else {
+        Status::BalanceError
     }
 }
 
@@ -30,12 +28,9 @@ pub fn announced<Q: Quantity>(request: Request<Q::Row>, side: Side, quantity: Q)
         Side::Taker => (request.giving, word),
     };
     Request {
-        giver: request.giver,
-        taker: request.taker,
-        first: request.first,
-        last: request.last,
         giving,
         taking,
         status: balance_of::<Q>(giving, taking),
+        ..request
     }
 }

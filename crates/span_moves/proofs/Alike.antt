@@ -1,5 +1,5 @@
 -- Values of one amount are treated alike.
-use Rattle.std.proofs.Common.{◌≡◌, ℕ, ◌-◌, Bool, true, false, cond, is_some, Some, None, Option, unwrap_or, sym, refl, ap, ◌∙◌, subst, arith}
+use Rattle.std.proofs.Common.{◌≡◌, ℕ, ◌-◌, true, is_some, Some, None, Option, unwrap_or, sym, refl, ap, ◌∙◌, subst, arith}
 use mathlib.Core.Path.{fun_ext}
 use Rattle.std.proofs.lemmas.Bool.{true≢false}
 use Rattle.quantity.specs.Measure.{Measure, Sum, Rest, is_zero}
@@ -9,28 +9,21 @@ use Rattle.book.proofs.Counts.{total_alike, taken_is}
 use Rattle.refusals.specs.declared.refusal.Refusal.{Refusal}
 use Rattle.span_moves.specs.declared.change.Change.{Change}
 use Rattle.span_moves.specs.declared.change.Change.TheVariants.{Lowering, Raising}
-use Rattle.span_moves.specs.Spans.{next, misfit, unless_some, first_of, left, left_after, becomes, unfit, barred_at, barred_sum, unadmitted}
-use Rattle.span_moves.specs.Moves.{free_places}
+use Rattle.span_moves.specs.Spans.{next, misfit, unless_some, first_of, left, left_after, becomes, unfit, asked, barred_sum}
+use Rattle.span_moves.specs.Moves.{unwelcome, free_places}
 
 pub some_from : {A : Type 0} (o : Option A) → is_some o ≡ true → (x : A) × (o ≡ Some x)
 some_from None e = absurd (true≢false (sym e))
 some_from (Some x) e = (x, refl)
 
-bools : (x y : Bool) → (x ≡ true → y ≡ true) → (y ≡ true → x ≡ true) → x ≡ y
-bools true y f g = sym (f refl)
-bools false true f g = g refl
-bools false false f g = refl
-
 module _ {Q R : Type 0} (m : Measure Q R) where
   pub zero_alike : (a b : Q) → m.amount a ≡ m.amount b → is_zero m a ≡ is_zero m b
-  zero_alike a b e = bools (is_zero m a) (is_zero m b) (λ h. m.same_alike b m.nothing (sym e ∙ m.alike_same a m.nothing h)) (λ h. m.same_alike a m.nothing (e ∙ m.alike_same b m.nothing h))
+  zero_alike a b e = grind (arith, m.same_alike a m.nothing, m.alike_same a m.nothing, m.same_alike b m.nothing, m.alike_same b m.nothing)
 
   pub taken_alike : (g h : Grid Q) → amounts m g ≡ amounts m h → taken m g ≡ taken m h
   unfolding amounts
   taken_alike g h e =
-      taken_is m g
-      ∙ (total_alike (λ p. total (filled m g p) 100) (λ p. total (filled m h p) 100) 32 (λ p _. total_alike (filled m g p) (filled m h p) 100 (λ t _. ap {B = ℕ} (λ b. cond b 0 1) (zero_alike (g p t) (h p t) (ap (λ f. f p t) e))))
-      ∙ sym (taken_is m h))
+      rw (taken_is m g, taken_is m h) (total_alike (λ p. total (filled m g p) 100) (λ p. total (filled m h p) 100) 32 (λ p _. total_alike (filled m g p) (filled m h p) 100 (λ t _. rw (zero_alike (g p t) (h p t) (ap (λ f. f p t) e)) refl)))
 
   -- two answers: both none, or values of one amount
   abbrev pub Same : Option Q → Option Q → Type 0
@@ -42,25 +35,23 @@ module _ {Q R : Type 0} (m : Measure Q R) where
   module _ (a b q r : Q) (e : m.amount a ≡ m.amount b) (f : m.amount q ≡ m.amount r) where
     joined_same : (o p : Option Q) → Sum m.plus m.Fits m.amount a q o → Sum m.plus m.Fits m.amount b r p → Same o p
     joined_same None None s t = tt
-    joined_same None (Some d) s t = s (subst m.Fits (t ∙ (λ i. m.plus (sym e i) (sym f i))) (m.fitting d))
-    joined_same (Some c) None s t = t (subst m.Fits (s ∙ (λ i. m.plus (e i) (f i))) (m.fitting c))
-    joined_same (Some c) (Some d) s t = s ∙ ((λ i. m.plus (e i) (f i)) ∙ sym t)
+    joined_same None (Some d) s t = s (rw (e, f, ← t) (m.fitting d))
+    joined_same (Some c) None s t = t (rw (← e, ← f, ← s) (m.fitting c))
+    joined_same (Some c) (Some d) s t = cc
 
     remaining_same : (o p : Option Q) → Rest m.plus m.Fits m.amount a q o → Rest m.plus m.Fits m.amount b r p → Same o p
     remaining_same None None s t = tt
-    remaining_same None (Some d) s t = s (m.amount d) (m.fitting d) (ap (λ x. m.plus x (m.amount d)) f ∙ (t ∙ sym e))
-    remaining_same (Some c) None s t = t (m.amount c) (m.fitting c) (ap (λ x. m.plus x (m.amount c)) (sym f) ∙ (s ∙ e))
-    remaining_same (Some c) (Some d) s t = m.cancels (m.amount q) (m.amount c) (m.amount d) (s ∙ (e ∙ (sym t ∙ ap (λ x. m.plus x (m.amount d)) (sym f))))
+    remaining_same None (Some d) s t = s (m.amount d) (m.fitting d) cc
+    remaining_same (Some c) None s t = t (m.amount c) (m.fitting c) cc
+    remaining_same (Some c) (Some d) s t = m.cancels (m.amount q) (m.amount c) (m.amount d) cc
 
     pub next_same : (change : Change) → Same (next m change a q) (next m change b r)
     next_same Lowering = remaining_same (m.remaining a q) (m.remaining b r) (m.remains a q) (m.remains b r)
     next_same Raising = joined_same (m.joined a q) (m.joined b r) (m.joins a q) (m.joins b r)
 
   same_some : (o p : Option Q) (d : Q) → Same o p → p ≡ Some d → (c : Q) × (o ≡ Some c) × (m.amount c ≡ m.amount d)
-  same_some None None d s h = absurd (let z : ◌≡◌ {A = ℕ} 0 1 = cc in omega arith)
-  same_some None (Some x) d s h = absurd s
-  same_some (Some c) None d s h = absurd s
-  same_some (Some c) (Some x) d s h = (c, refl, s ∙ ap m.amount (let k : x ≡ d = cc in k))
+  same_some None p d s h = absurd (grind arith)
+  same_some (Some c) p d s h = (c, refl, grind arith)
 
   pub next_alike : (change : Change) (a b q r d : Q) → m.amount a ≡ m.amount b → m.amount q ≡ m.amount r → next m change b r ≡ Some d → (c : Q) × (next m change a q ≡ Some c) × (m.amount c ≡ m.amount d)
   next_alike change a b q r d e f h = same_some (next m change a q) (next m change b r) d (next_same a b q r e f change) h
@@ -75,16 +66,21 @@ module _ {Q R : Type 0} (m : Measure Q R) where
   next_is Raising a q d e = subst (Sum m.plus m.Fits m.amount a q) e (m.joins a q)
 
   unless_same : (refusal : Refusal) (o p : Option Q) → Same o p → unless_some refusal o ≡ unless_some refusal p
-  unless_same refusal None None s = refl
-  unless_same refusal None (Some d) s = absurd s
-  unless_same refusal (Some c) None s = absurd s
-  unless_same refusal (Some c) (Some d) s = refl
+  unless_same refusal None p s = grind arith
+  unless_same refusal (Some c) p s = grind arith
 
   value_same : (a b : Q) → m.amount a ≡ m.amount b → (o p : Option Q) → Same o p → m.amount (unwrap_or o a) ≡ m.amount (unwrap_or p b)
-  value_same a b e None None s = e
-  value_same a b e None (Some d) s = absurd s
-  value_same a b e (Some c) None s = absurd s
-  value_same a b e (Some c) (Some d) s = s
+  value_same a b e None p s = grind arith
+  value_same a b e (Some c) p s = grind arith
+
+-- a change is unwelcome where what it makes of a holding is barred
+pub unwelcome_is : {Q R : Type 0} (m : Measure Q R) (held : Grid Q) (places : ℕ) (admission : ℕ → ℕ → Q → Admission) (change : Change) (p : ℕ) (q : Q) (t : ℕ) → unwelcome m held places admission change p q t ≡ barred_sum (asked admission change p t) p t (next m change (held p t) q)
+unwelcome_is m held places admission Raising p q t = refl
+unwelcome_is {Q = Q} m held places admission Lowering p q t = by (m.remaining (held p t) q)
+  where
+    by : (o : Option Q) → None ≡ barred_sum (asked admission Lowering p t) p t o
+    by None = refl
+    by (Some c) = refl
 
 -- two rows of holdings, and two quantities, of the same amounts
 module _ {Q R : Type 0} (m : Measure Q R) (held other : Grid Q) (p : ℕ) (q r : Q) (row : (t : ℕ) → m.amount (other p t) ≡ m.amount (held p t)) (f : m.amount r ≡ m.amount q) where
@@ -102,20 +98,19 @@ module _ {Q R : Type 0} (m : Measure Q R) (held other : Grid Q) (p : ℕ) (q r :
       ap (λ was. left was (λ t. is_zero m (becomes m other change p r t)) free lo n) (fun_ext (λ t. zero_alike m (other p t) (held p t) (row t)))
       ∙ ap (λ will. left (λ t. is_zero m (held p t)) will free lo n) (fun_ext (λ t. zero_alike m (becomes m other change p r t) (becomes m held change p q t) (became_row change t)))
 
-  -- where all values of the sum are admitted alike, so are the raises
-  module _ (admission : ℕ → ℕ → Q → Admission) (t : ℕ) where
+  -- where all values of what a holding becomes are admitted alike, they are barred alike
+  module _ (places : ℕ) (admission : ℕ → ℕ → Q → Admission) (change : Change) (t : ℕ) where
     abbrev Fair : Option Q → Type 0
     Fair None = Unit {0}
-    Fair (Some s) = (v : Q) → m.amount v ≡ m.amount s → admission p t v ≡ admission p t s
+    Fair (Some s) = (v : Q) → m.amount v ≡ m.amount s → asked admission change p t v ≡ asked admission change p t s
 
-    barred_same : (o sum : Option Q) → Same m o sum → Fair sum → barred_sum (admission p t) p t o ≡ barred_sum (admission p t) p t sum
-    barred_same None None s h = refl
-    barred_same None (Some d) s h = absurd s
+    barred_same : (o sum : Option Q) → Same m o sum → Fair sum → barred_sum (asked admission change p t) p t o ≡ barred_sum (asked admission change p t) p t sum
+    barred_same None sum s h = grind arith
     barred_same (Some c) None s h = absurd s
-    barred_same (Some c) (Some d) s h = ap (barred_at p t) (h c s)
+    barred_same (Some c) (Some d) s h = rw (h c s) refl
 
-    pub barred_row : (sum : Option Q) → m.joined (held p t) q ≡ sum → Fair sum → unadmitted m other admission p r t ≡ barred_sum (admission p t) p t sum
-    barred_row sum e h = barred_same (m.joined (other p t) r) sum (subst (Same m (m.joined (other p t) r)) e (both_next Raising t)) h
+    pub unwelcome_alike : (sum : Option Q) → next m change (held p t) q ≡ sum → Fair sum → unwelcome m other places admission change p r t ≡ barred_sum (asked admission change p t) p t sum
+    unwelcome_alike sum e h = unwelcome_is m other places admission change p r t ∙ barred_same (next m change (other p t) r) sum (subst (Same m (next m change (other p t) r)) e (both_next change t)) h
 
 -- holdings of the same amounts
 module _ {Q R : Type 0} (m : Measure Q R) (held other : Grid Q) (e : amounts m other ≡ amounts m held) where

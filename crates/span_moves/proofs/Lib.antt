@@ -6,4 +6,3 @@ mod Steps
 mod Whole
 mod Moving
 pub mod Shares
-mod MoveWhole

@@ -1,64 +1,50 @@
 -- One quarter of a span that is ready to be changed.
-use Rattle.std.proofs.Common.{◌≡◌, ℕ, zero, suc, ◌+◌, ◌-◌, ◌≤◌, Bool, true, false, cond, not, ◌&&◌, leb, is_some, Some, None, unwrap_or, sym, refl, ap, ◌∙◌, arith}
-use Rattle.std.proofs.lemmas.Bool.{lt-leb, true≢false}
+use Rattle.std.proofs.Common.{◌≡◌, ℕ, zero, suc, ◌+◌, ◌-◌, ◌<◌, ◌≤◌, Bool, true, false, cond, not, ◌&&◌, leb, is_some, Some, None, sym, refl, ap, ◌∙◌, arith}
+use Rattle.std.proofs.lemmas.Bool.Decides.{nat_tests}
 use Rattle.quantity.specs.Measure.{Measure, is_zero}
 use Rattle.book.specs.Grid.{Grid, in_range, put, amounts, taken, filled}
-use Rattle.book.specs.Calls.{everything, barred, full, crowded, change_refusal, changed, raise_refusal, lower_refusal}
+use Rattle.book.specs.Calls.{full}
 use Rattle.book.specs.Admissions.{Admission}
-use Rattle.book.specs.declared.answers.BookRefusal.TheVariants.{SumDoesNotFit, NoRemainder}
 use Rattle.book.proofs.Grids.{range_from}
 use Rattle.book.proofs.Counts.{taken_put}
 use Rattle.book.proofs.Changes.{raise_inside, lower_inside, raised_is, lowered_is, amounts_put}
 use Rattle.span_moves.specs.declared.change.Change.{Change}
 use Rattle.span_moves.specs.declared.change.Change.TheVariants.{Lowering, Raising}
-use Rattle.span_moves.specs.Spans.{next, step_left, then_left, barred_at, barred_sum, becomes, spanned, left_after, count}
+use Rattle.span_moves.specs.Spans.{next, step_left, barred_at, becomes, spanned, left_after}
 use Rattle.span_moves.specs.Ready.{changed_one, Welcome, Ready}
-use Rattle.span_moves.proofs.Lefts.{left_more, left_before}
+use Rattle.span_moves.proofs.Lefts.{left_next, left_before}
 use Rattle.span_moves.proofs.Alike.{some_from, zero_alike, next_alike, taken_alike}
-use Rattle.span_moves.proofs.Spanned.{spanned_later, spanned_more}
+use Rattle.span_moves.proofs.Spanned.{spanned-later, put-spanned}
 
 -- where a step finds a place, the count follows the holdings that are not zero
-pub count_step : (a b : Bool) (places before after n : ℕ) → before ≤ places → n ≡ places - before → after + cond a 0 1 ≡ before + cond b 0 1 → is_some (step_left a b n) ≡ true → (step_left a b n ≡ Some (places - after)) × (after ≤ places)
-count_step true true places before after n l e h s = (ap Some (omega arith), omega arith)
-count_step true false places before after zero l e h s = absurd (true≢false (sym s))
-count_step true false places before after (suc n) l e h s = (ap Some (omega arith), omega arith)
-count_step false true places before after n l e h s = (ap Some (omega arith), omega arith)
-count_step false false places before after n l e h s = (ap Some (omega arith), omega arith)
+count_step : (a b : Bool) (places before after n : ℕ) → before ≤ places → n ≡ places - before → after + cond a 0 1 ≡ before + cond b 0 1 → is_some (step_left a b n) ≡ true → (step_left a b n ≡ Some (places - after)) × (after ≤ places)
+count_step a b places before after zero l e h s = (grind arith, grind arith)
+count_step a b places before after (suc n) l e h s = (grind arith, grind arith)
 
 -- and the book has one
 room_step : (a b : Bool) (places before n : ℕ) → before ≤ places → n ≡ places - before → is_some (step_left a b n) ≡ true → (a && (not b && leb places before)) ≡ false
-room_step true true places before n l e s = refl
-room_step true false places before zero l e s = absurd (true≢false (sym s))
-room_step true false places before (suc n) l e s = lt-leb places before (omega arith)
-room_step false b places before n l e s = refl
+room_step a b places before zero l e s = grind (arith, nat_tests)
+room_step a b places before (suc n) l e s = grind (arith, nat_tests)
 
+-- a change to c that has a place
 module _ {Q R : Type 0} (m : Measure Q R) (held : Grid Q) (places : ℕ) (admission : ℕ → ℕ → Q → Admission) (p t : ℕ) (q c : Q) (inside : in_range p t ≡ true) (roomy : full m held places p t c ≡ false) where
-  -- a change to c that has a place
-  raised_to : next m Raising (held p t) q ≡ Some c → admission p t c ≡ None → changed_one m held places admission Raising p t q ≡ put (amounts m held) p t (m.amount c)
-  raised_to e y =
-      let free : raise_refusal m held places admission p t q ≡ None = raise_inside m held places p t q admission inside ∙ (ap (change_refusal m held places SumDoesNotFit (admission p t) p t) e ∙ (ap (λ a. barred a (crowded m held places (full m held places p t c))) y ∙ ap (crowded m held places) roomy)) in
-      raised_is m held places p t q admission ∙ (ap (λ r. changed m held p t r (m.joined (held p t) q)) free ∙ ap (changed m held p t None) e)
+  changed_one-is : (held0 : Grid Q) (change : Change) → Welcome m held0 places admission change p q t → m.amount (held p t) ≡ m.amount (held0 p t) → next m change (held p t) q ≡ Some c → changed_one m held places admission change p t q ≡ put (amounts m held) p t (m.amount c)
+  changed_one-is held0 Lowering w k e = rw (lowered_is m held places p t q, lower_inside m held places p t q inside, e, roomy) refl
+  changed_one-is held0 Raising w k e =
+      let fair : barred_at p t (admission p t c) ≡ None = rw e at (w (held p t) k) in
+      let yes : admission p t c ≡ None = grind arith in
+      rw (raised_is m held places p t q admission, raise_inside m held places p t q admission inside, e, yes, roomy) refl
 
-  lowered_to : next m Lowering (held p t) q ≡ Some c → changed_one m held places admission Lowering p t q ≡ put (amounts m held) p t (m.amount c)
-  lowered_to e =
-      let free : lower_refusal m held places p t q ≡ None = lower_inside m held places p t q inside ∙ (ap (change_refusal m held places NoRemainder (everything p t) p t) e ∙ ap (crowded m held places) roomy) in
-      lowered_is m held places p t q ∙ (ap (λ r. changed m held p t r (m.remaining (held p t) q)) free ∙ ap (changed m held p t None) e)
+-- the quarters from lo on and before t are changed
+pub record Stepped {Q R : Type 0} (m : Measure Q R) (held0 : Grid Q) (places : ℕ) (change : Change) (p lo : ℕ) (q : Q) (t : ℕ) (held : Grid Q) : Type 0 where
+  pub so_far : amounts m held ≡ spanned m held0 change p q lo t
+  pub left_is : left_after m held0 change p q (Some (places - taken m held0)) lo (t - lo) ≡ Some (places - taken m held)
+  pub bound : taken m held ≤ places
 
-  barred_yes : (a : Admission) → barred_at p t a ≡ None → a ≡ None
-  barred_yes None e = refl
-  barred_yes (Some cause) e = absurd (let z : ◌≡◌ {A = ℕ} 0 1 = cc in omega arith)
-
-  welcome_to : (held0 : Grid Q) (change : Change) → Welcome m held0 places admission change p q t → m.amount (held p t) ≡ m.amount (held0 p t) → next m change (held p t) q ≡ Some c → changed_one m held places admission change p t q ≡ put (amounts m held) p t (m.amount c)
-  welcome_to held0 Lowering w k e = lowered_to e
-  welcome_to held0 Raising w k e = raised_to e (barred_yes (admission p t c) (ap (barred_sum (admission p t) p t) (sym e) ∙ w (held p t) k))
-
-module _ {Q R : Type 0} (m : Measure Q R) (held0 : Grid Q) (places : ℕ) (admission : ℕ → ℕ → Q → Admission) (change : Change) (p lo last : ℕ) (q : Q) (ready : Ready m held0 places admission change p lo last q) (t : ℕ) (l : lo ≤ t) (h : t ≤ last) (held : Grid Q) (so_far : amounts m held ≡ spanned m held0 change p q lo t) (left_is : left_after m held0 change p q (Some (places - taken m held0)) lo (t - lo) ≡ Some (places - taken m held)) (bound : taken m held ≤ places) where
-  inside : in_range p t ≡ true
-  inside = range_from p t ready.provider (omega (arith, ready.end))
-
+module _ {Q R : Type 0} (m : Measure Q R) (held0 : Grid Q) (places : ℕ) (admission : ℕ → ℕ → Q → Admission) (change : Change) (p lo last : ℕ) (q : Q) (provider : p < 32) (end : last < 100) (ready : Ready m held0 places admission change p lo last q) (t : ℕ) (l : lo ≤ t) (h : t ≤ last) (held : Grid Q) (so : Stepped m held0 places change p lo q t held) where
   same : m.amount (held p t) ≡ m.amount (held0 p t)
   unfolding amounts
-  same = ap (λ g. g p t) so_far ∙ spanned_later m held0 change p q lo t t p (omega arith)
+  same = ap (λ g. g p t) so.so_far ∙ spanned-later m held0 change p q lo t t p (omega arith)
 
   old_next : (d : Q) × (next m change (held0 p t) q ≡ Some d)
   old_next = some_from (next m change (held0 p t) q) (ready.fits t l h)
@@ -73,48 +59,28 @@ module _ {Q R : Type 0} (m : Measure Q R) (held0 : Grid Q) (places : ℕ) (admis
   c = new_next.0
 
   became : becomes m held0 change p q t ≡ d
-  became = ap (λ o. unwrap_or o (held0 p t)) old_next.1
-
-  was : is_zero m (held0 p t) ≡ is_zero m (held p t)
-  was = sym (zero_alike m (held p t) (held0 p t) same)
-
-  will : is_zero m (becomes m held0 change p q t) ≡ is_zero m c
-  will = ap (is_zero m) became ∙ sym (zero_alike m c d new_next.2)
+  became = rw old_next.1 refl
 
   -- the count after this quarter
-  next_left : left_after m held0 change p q (Some (places - taken m held0)) lo ((t - lo) + 1) ≡ step_left (is_zero m (held p t)) (is_zero m c) (places - taken m held)
-  next_left =
-      left_more (λ x. is_zero m (held0 p x)) (λ x. is_zero m (becomes m held0 change p q x)) (Some (places - taken m held0)) lo (t - lo) t (omega arith)
-      ∙ (ap (then_left (is_zero m (held0 p t)) (is_zero m (becomes m held0 change p q t))) left_is
-      ∙ (ap (λ b. step_left b (is_zero m (becomes m held0 change p q t)) (places - taken m held)) was ∙ ap (λ b. step_left (is_zero m (held p t)) b (places - taken m held)) will))
+  next_left : left_after m held0 change p q (Some (places - taken m held0)) lo (t + 1 - lo) ≡ step_left (is_zero m (held p t)) (is_zero m c) (places - taken m held)
+  next_left = rw (left_next (λ x. is_zero m (held0 p x)) (λ x. is_zero m (becomes m held0 change p q x)) (Some (places - taken m held0)) lo t l, so.left_is, became, zero_alike m (held p t) (held0 p t) same, zero_alike m c d new_next.2) refl
 
   some_left : is_some (step_left (is_zero m (held p t)) (is_zero m c) (places - taken m held)) ≡ true
-  some_left =
-      ap is_some (sym next_left)
-      ∙ left_before (λ x. is_zero m (held0 p x)) (λ x. is_zero m (becomes m held0 change p q x)) (Some (places - taken m held0)) lo ((t - lo) + 1) (last - t)
-      (ap (λ n. is_some (left_after m held0 change p q (Some (places - taken m held0)) lo n)) (let w : ((t - lo) + 1) + (last - t) ≡ count lo last = omega arith in w) ∙ ready.room)
+  some_left = rw (← next_left) (left_before (λ x. is_zero m (held0 p x)) (λ x. is_zero m (becomes m held0 change p q x)) (Some (places - taken m held0)) lo (t + 1) (last + 1) (omega arith) (omega arith) ready.room)
 
   put_is : changed_one m held places admission change p t q ≡ put (amounts m held) p t (m.amount c)
-  put_is = welcome_to m held places admission p t q c inside (room_step (is_zero m (held p t)) (is_zero m c) places (taken m held) (places - taken m held) bound refl some_left) held0 change (ready.welcome t l h) same new_next.1
-
-  -- the amounts after this quarter
-  pub next_amounts : changed_one m held places admission change p t q ≡ spanned m held0 change p q lo (t + 1)
-  next_amounts =
-      put_is
-      ∙ (ap (λ g. put g p t (m.amount c)) so_far
-      ∙ (ap (put (spanned m held0 change p q lo t) p t) (new_next.2 ∙ ap m.amount (sym became)) ∙ spanned_more m held0 change p q lo t l))
+  put_is = changed_one-is m held places admission p t q c (range_from p t provider (omega arith)) (room_step (is_zero m (held p t)) (is_zero m c) places (taken m held) (places - taken m held) so.bound refl some_left) held0 change (ready.welcome t l h) same new_next.1
 
   module _ (after : Grid Q) (is : amounts m after ≡ changed_one m held places admission change p t q) where
+    -- the amounts after this quarter
+    next_amounts : amounts m after ≡ spanned m held0 change p q lo (t + 1)
+    next_amounts = rw (is, put_is, so.so_far, new_next.2, ← became) (put-spanned m held0 change p q lo t l)
+
     counted : taken m after + filled m held p t ≡ taken m held + cond (is_zero m c) 0 1
-    counted =
-        ap (λ n. n + filled m held p t) (taken_alike m after (put held p t c) (is ∙ (put_is ∙ sym (amounts_put m held p t c))))
-        ∙ taken_put m held p t ready.provider (omega (arith, ready.end)) c
+    counted = rw (taken_alike m after (put held p t c) (is ∙ (put_is ∙ sym (amounts_put m held p t c)))) (taken_put m held p t provider (omega arith) c)
 
     step : (step_left (is_zero m (held p t)) (is_zero m c) (places - taken m held) ≡ Some (places - taken m after)) × (taken m after ≤ places)
-    step = count_step (is_zero m (held p t)) (is_zero m c) places (taken m held) (taken m after) (places - taken m held) bound refl counted some_left
+    step = count_step (is_zero m (held p t)) (is_zero m c) places (taken m held) (taken m after) (places - taken m held) so.bound refl counted some_left
 
-    pub next_count : left_after m held0 change p q (Some (places - taken m held0)) lo ((t + 1) - lo) ≡ Some (places - taken m after)
-    next_count = ap (left_after m held0 change p q (Some (places - taken m held0)) lo) (let w : (t + 1) - lo ≡ (t - lo) + 1 = omega arith in w) ∙ (next_left ∙ step.0)
-
-    pub next_bound : taken m after ≤ places
-    next_bound = step.1
+    pub next_quarter : Stepped m held0 places change p lo q (t + 1) after
+    next_quarter = record { so_far = next_amounts; left_is = next_left ∙ step.0; bound = step.1 }

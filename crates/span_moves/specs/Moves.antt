@@ -29,6 +29,15 @@ module _ {Q R : Type 0} (m : Measure Q R) (held : Grid Q) (places : ℕ) (admiss
   abbrev pub free_places : Option ℕ
   free_places = Some (places - taken m held)
 
+  -- why a change of a span is refused by what is held
+  abbrev pub change_checks : Change → ℕ → ℕ → ℕ → Q → Option Refusal
+  change_checks change p first last q =
+      first_some
+      (first_of (unfit m held change p q) first (count first last)
+      ∷ (first_of (unwelcome change p q) first (count first last)
+      ∷ (crowding (left_after m held change p q free_places first (count first last)) ∷ []))
+      )
+
   -- why a span is not raised or lowered, if it is not: the first of these
   unfoldable pub span_refusal : Change → ℕ → ℕ → ℕ → Q → Option Refusal
   span_refusal change p first last q =
@@ -43,6 +52,16 @@ module _ {Q R : Type 0} (m : Measure Q R) (held : Grid Q) (places : ℕ) (admiss
   -- the amounts after a span is raised or lowered
   unfoldable pub span_after : Change → ℕ → ℕ → ℕ → Q → Grid m.Amount
   span_after change p first last q = unless_refused (span_refusal change p first last q) (spanned m held change p q first (last + 1)) (amounts m held)
+
+  -- why a move of a span is refused by what is held
+  abbrev pub move_checks : ℕ → ℕ → ℕ → ℕ → Q → Option Refusal
+  move_checks giver taker first last q =
+      first_some
+      (first_of (unfit m held Lowering giver q) first (count first last)
+      ∷ (first_of (unfit m held Raising taker q) first (count first last)
+      ∷ (first_of (unadmitted m held admission taker q) first (count first last)
+      ∷ (crowding (left_after m held Raising taker q (left_after m held Lowering giver q free_places first (count first last)) first (count first last)) ∷ [])))
+      )
 
   -- why a span is not moved, if it is not: the first of these; all lowerings come before all raisings
   unfoldable pub move_refusal : ℕ → ℕ → ℕ → ℕ → Q → Option Refusal

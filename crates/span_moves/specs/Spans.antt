@@ -67,6 +67,11 @@ abbrev pub barred_at : ℕ → ℕ → Admission → Option Refusal
 barred_at p t None = None
 barred_at p t (Some cause) = Some (NotAdmitted p t cause)
 
+-- what is asked of a book before a change: only what is raised has to be admitted
+abbrev pub asked : {Q : Type 0} → (ℕ → ℕ → Q → Admission) → Change → ℕ → ℕ → Q → Admission
+asked admission Lowering p t q = None
+asked admission Raising p t q = admission p t q
+
 -- the refusal of a sum that is not admitted
 abbrev pub barred_sum : {Q : Type 0} → (Q → Admission) → ℕ → ℕ → Option Q → Option Refusal
 barred_sum admits p t None = None

@@ -1,32 +1,72 @@
-ghost use Rattle.std.specs.Prelude.{◌≡◌};
-ghost use Rattle.span_moves.specs.Spans.{next, misfit};
+ghost use Rattle.std.specs.Prelude.{◌≡◌, ◌<◌};
+ghost use Rattle.std.specs.Result.{result_err};
+ghost use Rattle.book.specs.Grid.{amounts};
+ghost use Rattle.span_moves.specs.Spans.{next, misfit, asked};
+ghost use Rattle.span_moves.specs.Ready.{changed_one};
 
+use crate::span::Provider;
+use book::answers::Cause;
+use book::interface::Book;
 use quantity::interface::Quantity;
 use refusals::refusal::Refusal;
 
-/// What is done to each holding of a span.
+/// What is done to each holding of a span. An enum, since the definitions of specs/ speak of both by it.
 #[derive(Clone, Copy, PartialEq, Eq, Debug)]
 pub enum Change {
     Lowering,
     Raising,
 }
 
-/// What a holding becomes.
-pub fn next_holding<Q: Quantity>(change: Change, held: Q, quantity: Q) -> Option<Q>
-    ensures { result ≡ next Q.Quantity.measure change held quantity }
-{
-    match change {
-        Change::Lowering => held.remainder(quantity),
-        Change::Raising => held.join(quantity),
+impl Change {
+    /// What a holding becomes.
+    pub fn next<Q: Quantity>(self, held: Q, quantity: Q) -> Option<Q>
+        ensures { result ≡ next Q.Quantity.measure self held quantity }
+    {
+        match self {
+            Change::Lowering => held.remainder(quantity),
+            Change::Raising => held.join(quantity),
+        }
     }
-}
 
-/// The refusal where a holding can become nothing that fits.
-pub fn misfit_refusal(change: Change, provider: u8, quarter: u8) -> Refusal
-    ensures { result ≡ misfit change provider quarter }
-{
-    match change {
-        Change::Lowering => Refusal::NoRemainder { provider, quarter },
-        Change::Raising => Refusal::SumDoesNotFit { provider, quarter },
+    /// The refusal where a holding can become nothing that fits.
+    pub fn misfit(self, provider: Provider, quarter: u8) -> Refusal
+        ensures { result ≡ misfit self provider.number quarter }
+    {
+        let provider = provider.number;
+        match self {
+            Change::Lowering => Refusal::NoRemainder { provider, quarter },
+            Change::Raising => Refusal::SumDoesNotFit { provider, quarter },
+        }
+    }
+
+    /// Whether the book admits what a holding becomes: only what is raised has to be admitted.
+    pub fn admits<B: Book>(
+        self,
+        book: &B,
+        provider: Provider,
+        quarter: u8,
+        changed: B::Q,
+    ) -> Result<(), Cause>
+        requires { quarter < 100 }
+        ensures value { result_err result ≡ asked (B.Book.admission book.now) self provider.number quarter changed }
+        ensures alike { (other : B.Q) → B.Q.Quantity.measure.amount other ≡ B.Q.Quantity.measure.amount changed → asked (B.Book.admission book.now) self provider.number quarter other ≡ asked (B.Book.admission book.now) self provider.number quarter changed }
+    {
+        match self {
+            Change::Lowering => Ok(()),
+            Change::Raising => book.admits(provider.number, quarter, changed),
+        }
+    }
+
+    /// Changes one holding, if the book does not refuse it.
+    pub fn apply<B: Book>(self, book: &mut B, provider: Provider, quarter: u8, quantity: B::Q)
+        ensures after { amounts B.Q.Quantity.measure (B.Book.holdings book.new) ≡ changed_one B.Q.Quantity.measure (B.Book.holdings book.old) (B.Book.places book.old) (B.Book.admission book.old) self provider.number quarter quantity }
+        ensures places { B.Book.places book.new ≡ B.Book.places book.old }
+        ensures admission { B.Book.admission book.new ≡ B.Book.admission book.old }
+        ensures layer { B.Book.layer_number book.new ≡ B.Book.layer_number book.old }
+    {
+        let _ = match self {
+            Change::Lowering => book.lower(provider.number, quarter, quantity),
+            Change::Raising => book.raise(provider.number, quarter, quantity),
+        };
     }
 }

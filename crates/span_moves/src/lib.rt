@@ -1,6 +1,7 @@
 #![tactic(auto)]
 
-mod apply;
 mod change;
-mod checks;
+mod span;
+mod span_change;
+mod span_move;
 pub mod spans;

@@ -5,8 +5,10 @@ use Rattle.std.specs.Option.{option_map}
 use Rattle.quantity.specs.Measure.{Measure}
 use Rattle.book.specs.Grid.{Grid, put, amounts}
 use Rattle.book.proofs.Grids.{put_same}
+use Rattle.std.specs.List.{position}
+use Rattle.sparse_book.proofs.Firsts.{position-cons}
 use Rattle.sparse_book.specs.declared.record.Record.{Record}
-use Rattle.sparse_book.specs.Records.{Slot, keyed, first_at, mentions, apart, records_held, released}
+use Rattle.sparse_book.specs.Records.{Slot, keyed, mentions, apart, records_held, released}
 use Rattle.book.proofs.Changes.{amounts_put}
 use Rattle.sparse_book.proofs.Grids.{put_again, put_other}
 use Rattle.sparse_book.proofs.Slots.{apart_parts, apart_from, unmentioned, unmentioned_from, held_unmentioned}
@@ -45,10 +47,10 @@ module _ {R : Type 0} where
   tail_apart None ss e = e
   tail_apart (Some r) ss e = (apart_parts r ss e).2
 
-  pub gone : (p t : ℕ) (ss : List (Slot R)) → apart ss ≡ true → mentions p t (released (first_at (keyed p t) ss) ss) ≡ false
-  unfolding mentions first_at
+  pub gone : (p t : ℕ) (ss : List (Slot R)) → apart ss ≡ true → mentions p t (released (position (keyed p t) ss) ss) ≡ false
+  unfolding mentions
   gone p t [] e = refl
-  gone p t (s ∷ ss) e = gone_step p t s ss e (keyed p t s) refl (first_at (keyed p t) ss) (gone p t ss (tail_apart s ss e))
+  gone p t (s ∷ ss) e = ap (λ o. mentions p t (released o (s ∷ ss))) (position-cons (keyed p t) s ss) ∙ gone_step p t s ss e (keyed p t s) refl (position (keyed p t) ss) (gone p t ss (tail_apart s ss e))
 
   pub length_released : (o : Option ℕ) (ss : List (Slot R)) → length (released o ss) ≡ length ss
   length_released None ss = refl
@@ -92,7 +94,6 @@ module _ {Q R : Type 0} (m : Measure Q R) where
   freed_step p t (Some r) ss a false e (Some i) h = under p t m.none r ss (set ss i None) e h
 
   -- freeing the record of p in t makes that holding zero, and leaves the others
-  pub freed : (p t : ℕ) (ss : List (Slot R)) → apart ss ≡ true → held_amounts (released (first_at (keyed p t) ss) ss) ≡ put (held_amounts ss) p t m.none
-  unfolding first_at
+  pub freed : (p t : ℕ) (ss : List (Slot R)) → apart ss ≡ true → held_amounts (released (position (keyed p t) ss) ss) ≡ put (held_amounts ss) p t m.none
   freed p t [] e = none_held p t
-  freed p t (s ∷ ss) e = freed_step p t s ss e (keyed p t s) refl (first_at (keyed p t) ss) (freed p t ss (tail_apart s ss e))
+  freed p t (s ∷ ss) e = ap (λ o. held_amounts (released o (s ∷ ss))) (position-cons (keyed p t) s ss) ∙ freed_step p t s ss e (keyed p t s) refl (position (keyed p t) ss) (freed p t ss (tail_apart s ss e))

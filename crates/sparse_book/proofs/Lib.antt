@@ -5,4 +5,5 @@ mod Counting
 mod Freeing
 mod Taking
 mod Settling
+pub mod Calls
 mod Blank

@@ -8,8 +8,9 @@ use Rattle.book.specs.declared.answers.BookRefusal.{BookRefusal}
 use Rattle.book.specs.declared.answers.BookRefusal.TheVariants.{NoFreePlace}
 use Rattle.book.proofs.Counts.{nothing_zero}
 use Rattle.sparse_book.specs.declared.record.Record.{Record}
-use Rattle.sparse_book.specs.Records.{Slot, keyed, vacant, first_at, apart, records_held, vacancies, told_by_place, released, place_for, written, settled}
-use Rattle.sparse_book.proofs.Firsts.{found_at}
+use Rattle.sparse_book.specs.Records.{Slot, keyed, vacant, apart, records_held, vacancies, told_by_place, released, place_for, written, settled}
+use Rattle.std.specs.List.{position}
+use Rattle.std.proofs.lemmas.List.Quantifiers.{position-Some}
 use Rattle.sparse_book.proofs.Grids.{put_again}
 use Rattle.sparse_book.proofs.Slots.{held_told}
 use Rattle.sparse_book.proofs.Counting.{Vacancy, some_vacant, free_and_taken}
@@ -23,7 +24,7 @@ none (Some i) = false
 
 module _ {Q R : Type 0} (m : Measure Q R) (ss : List (Slot R)) (p t : ℕ) (q : Q) where
   abbrev told : Option ℕ
-  told = first_at (keyed p t) ss
+  told = position (keyed p t) ss
 
   -- the slots without the record of p in t
   abbrev without : List (Slot R)
@@ -52,21 +53,29 @@ module _ {Q R : Type 0} (m : Measure Q R) (ss : List (Slot R)) (p t : ℕ) (q : 
   settled_length = written_length (place_for m ss p t q)
 
   -- the place of a holding that is not zero
-  pub place_is : is_zero m q ≡ false → place_for m ss p t q ≡ cond (is_zero m (records_held m ss p t)) (first_at (vacant m) ss) told
+  pub place_is : is_zero m q ≡ false → place_for m ss p t q ≡ cond (is_zero m (records_held m ss p t)) (position (vacant m) ss) told
   unfolding place_for
   place_is z = cond-false (is_zero m q) None _ z
 
-  pub place_found : is_zero m q ≡ false → (o place : Option ℕ) → o ≡ told → place ≡ cond (is_zero m (told_by_place m ss o)) (first_at (vacant m) ss) o → place ≡ place_for m ss p t q
-  place_found z o place e h =
+  pub place_found : is_zero m q ≡ false → (xs : List (Slot R)) → xs ≡ ss → (o place : Option ℕ) → o ≡ told → place ≡ cond (is_zero m (told_by_place m xs o)) (position (vacant m) xs) o → place ≡ place_for m ss p t q
+  place_found z xs same o place e h =
       h
-      ∙ (ap (λ x. cond (is_zero m (told_by_place m ss x)) (first_at (vacant m) ss) x) e
-      ∙ (ap (λ x. cond (is_zero m x) (first_at (vacant m) ss) told) (sym held_is) ∙ sym (place_is z)))
+      ∙ (ap (λ ys. cond (is_zero m (told_by_place m ys o)) (position (vacant m) ys) o) same
+      ∙ (ap (λ x. cond (is_zero m (told_by_place m ss x)) (position (vacant m) ss) x) e
+      ∙ (ap (λ x. cond (is_zero m x) (position (vacant m) ss) told) (sym held_is) ∙ sym (place_is z))))
 
-  spot_by : (i : ℕ) (b : Bool) → cond b (first_at (vacant m) ss) told ≡ Some i → (i < length without) × (vacant m (get_or without i None) ≡ true)
+  -- the record freed, and its place written
+  pub settled_now : (i : ℕ) → place_for m ss p t q ≡ Some i → (o : Option ℕ) → o ≡ told → (y : R) → y ≡ m.row q → (gap now : List (Slot R)) → gap ≡ released o ss → now ≡ set gap i (Some (record { provider = p; quarter = t; row = y })) → now ≡ settled m ss p t q
+  settled_now i e o k y r gap now f h =
+      h
+      ∙ (ap (λ xs. set xs i (Some (record { provider = p; quarter = t; row = y }))) (f ∙ ap (λ x. released x ss) k)
+      ∙ (ap (λ w. set without i (Some (record { provider = p; quarter = t; row = w }))) r ∙ sym (settled_at i e)))
+
+  spot_by : (i : ℕ) (b : Bool) → cond b (position (vacant m) ss) told ≡ Some i → (i < length without) × (vacant m (get_or without i None) ≡ true)
   spot_by i true e =
-      let w = found_at (vacant m) None ss (Some i) e in (omega (arith, w.0, length_released told ss), still_vacant m ss told i w.1)
+      let w = position-Some (vacant m) ss i None e in (omega (arith, w.0, length_released told ss), still_vacant m ss told i w.1)
   spot_by i false e =
-      let w = found_at (keyed p t) None ss (Some i) e in
+      let w = position-Some (keyed p t) ss i None e in
       (omega (arith, w.0, length_released told ss), ap (λ o. vacant m (get_or (released o ss) i None)) e ∙ freed_vacant m ss i w.0)
 
   spot : is_zero m q ≡ false → (i : ℕ) → place_for m ss p t q ≡ Some i → (i < length without) × (vacant m (get_or without i None) ≡ true)
@@ -101,8 +110,8 @@ module _ {Q R : Type 0} (m : Measure Q R) (ss : List (Slot R)) (p t : ℕ) (q : 
     vacancy_tells None v = le-leb (length ss) (taken m (records_held m ss)) (omega (arith, v, free_and_taken m ss apart-slots))
     vacancy_tells (Some i) v = lt-leb (length ss) (taken m (records_held m ss)) (omega (arith, v, free_and_taken m ss apart-slots))
 
-    full_by : (b : Bool) → is_zero m (records_held m ss p t) ≡ b → (b && (not (is_zero m q) && all_taken)) ≡ (not (is_zero m q) && none (cond b (first_at (vacant m) ss) told))
-    full_by true h = ap (λ x. not (is_zero m q) && x) (vacancy_tells (first_at (vacant m) ss) (some_vacant m ss))
+    full_by : (b : Bool) → is_zero m (records_held m ss p t) ≡ b → (b && (not (is_zero m q) && all_taken)) ≡ (not (is_zero m q) && none (cond b (position (vacant m) ss) told))
+    full_by true h = ap (λ x. not (is_zero m q) && x) (vacancy_tells (position (vacant m) ss) (some_vacant m ss))
     full_by false h = sym (and_right (not (is_zero m q)) (none told) (told_some told refl))
       where
         told_some : (o : Option ℕ) → told ≡ o → none o ≡ false
@@ -110,7 +119,7 @@ module _ {Q R : Type 0} (m : Measure Q R) (ss : List (Slot R)) (p t : ℕ) (q : 
         told_some None e = absurd (both_ways (is_zero m (records_held m ss p t)) h (ap (is_zero m) (held_is ∙ ap (told_by_place m ss) e) ∙ nothing_zero m))
 
     full_is : is_zero m q ≡ false → full m (records_held m ss) (length ss) p t q ≡ none (place_for m ss p t q)
-    full_is z = full_by (is_zero m (records_held m ss p t)) refl ∙ (ap (λ b. not b && none (cond (is_zero m (records_held m ss p t)) (first_at (vacant m) ss) told)) z ∙ ap none (sym (place_is z)))
+    full_is z = full_by (is_zero m (records_held m ss p t)) refl ∙ (ap (λ b. not b && none (cond (is_zero m (records_held m ss p t)) (position (vacant m) ss) told)) z ∙ ap none (sym (place_is z)))
 
     module _ (refusal : BookRefusal) (change : Option Q) (is : change ≡ Some q) where
       by_full : change_refusal m (records_held m ss) (length ss) refusal (everything p t) p t change ≡ crowded m (records_held m ss) (length ss) (full m (records_held m ss) (length ss) p t q)

@@ -6,8 +6,10 @@ use Rattle.std.specs.Option.{option_map}
 use Rattle.quantity.specs.Measure.{Measure}
 use Rattle.book.specs.Grid.{in_range, put}
 use Rattle.book.proofs.Grids.{put_here, put_there}
+use Rattle.std.specs.List.{position}
+use Rattle.sparse_book.proofs.Firsts.{position-cons}
 use Rattle.sparse_book.specs.declared.record.Record.{Record}
-use Rattle.sparse_book.specs.Records.{Slot, keyed, first_at, mentions, apart, records_held, told_by_place}
+use Rattle.sparse_book.specs.Records.{Slot, keyed, mentions, apart, records_held, told_by_place}
 
 -- the parts of a record's being apart
 pub apart_parts : {R : Type 0} (r : Record R) (ss : List (Slot R)) → apart (Some r ∷ ss) ≡ true → (in_range r.provider r.quarter ≡ true) × (mentions r.provider r.quarter ss ≡ false) × (apart ss ≡ true)
@@ -45,7 +47,7 @@ module _ {Q R : Type 0} (m : Measure Q R) where
       put_there (records_held m ss) r.provider r.quarter (m.told r.row) p t (key_turned p t r.provider r.quarter ∙ w.0) ∙ held_unmentioned p t ss w.1
 
   -- a holding is what its first record tells
-  told_step : (p t : ℕ) (s : Slot R) (ss : List (Slot R)) (b : Bool) → keyed p t s ≡ b → records_held m ss p t ≡ told_by_place m ss (first_at (keyed p t) ss) → (o : Option ℕ) → first_at (keyed p t) ss ≡ o → records_held m (s ∷ ss) p t ≡ told_by_place m (s ∷ ss) (cond b (Some 0) (option_map suc o))
+  told_step : (p t : ℕ) (s : Slot R) (ss : List (Slot R)) (b : Bool) → keyed p t s ≡ b → records_held m ss p t ≡ told_by_place m ss (position (keyed p t) ss) → (o : Option ℕ) → position (keyed p t) ss ≡ o → records_held m (s ∷ ss) p t ≡ told_by_place m (s ∷ ss) (cond b (Some 0) (option_map suc o))
   unfolding records_held
   told_step p t None ss true e h o f = absurd (true≢false (sym e))
   told_step p t None ss false e h None f = h ∙ ap (told_by_place m ss) f
@@ -57,7 +59,7 @@ module _ {Q R : Type 0} (m : Measure Q R) where
   told_step p t (Some r) ss false e h None f = put_there (records_held m ss) r.provider r.quarter (m.told r.row) p t (key_turned p t r.provider r.quarter ∙ e) ∙ (h ∙ ap (told_by_place m ss) f)
   told_step p t (Some r) ss false e h (Some i) f = put_there (records_held m ss) r.provider r.quarter (m.told r.row) p t (key_turned p t r.provider r.quarter ∙ e) ∙ (h ∙ ap (told_by_place m ss) f)
 
-  pub held_told : (p t : ℕ) (ss : List (Slot R)) → records_held m ss p t ≡ told_by_place m ss (first_at (keyed p t) ss)
-  unfolding records_held first_at
+  pub held_told : (p t : ℕ) (ss : List (Slot R)) → records_held m ss p t ≡ told_by_place m ss (position (keyed p t) ss)
+  unfolding records_held
   held_told p t [] = refl
-  held_told p t (s ∷ ss) = told_step p t s ss (keyed p t s) refl (held_told p t ss) (first_at (keyed p t) ss) refl
+  held_told p t (s ∷ ss) = told_step p t s ss (keyed p t s) refl (held_told p t ss) (position (keyed p t) ss) refl ∙ ap (told_by_place m (s ∷ ss)) (sym (position-cons (keyed p t) s ss))

@@ -1,6 +1,5 @@
 -- What the records of a sparse book tell. A slot is empty or has a record.
-use Rattle.std.specs.Prelude.{ℕ, suc, ◌+◌, Bool, true, false, cond, not, ◌&&◌, ◌||◌, List, [], ◌∷◌, length, Some, None, Option, ◌==◌, slice_index_or, slice_set}
-use Rattle.std.specs.Option.{option_map}
+use Rattle.std.specs.Prelude.{ℕ, Bool, true, false, cond, not, ◌&&◌, ◌||◌, List, [], ◌∷◌, length, Some, None, Option, ◌==◌, slice_index_or, slice_set, position, count_by}
 use Rattle.quantity.specs.Measure.{Measure, is_zero}
 use Rattle.book.specs.Grid.{Grid, in_range, put}
 use Rattle.book.specs.Calls.{everything, raise_refusal, lower_refusal}
@@ -20,11 +19,6 @@ abbrev pub vacant : {Q R : Type 0} → Measure Q R → Slot R → Bool
 vacant m None = true
 vacant m (Some r) = is_zero m (m.told r.row)
 
--- the place of the first element that passes a test
-unfoldable pub first_at : {A : Type 0} → (A → Bool) → List A → Option ℕ
-first_at test [] = None
-first_at test (x ∷ xs) = cond (test x) (Some 0) (option_map suc (first_at test xs))
-
 -- some slot has the record of p in t
 unfoldable pub mentions : {R : Type 0} → ℕ → ℕ → List (Slot R) → Bool
 mentions p t [] = false
@@ -43,9 +37,8 @@ records_held m (None ∷ ss) = records_held m ss
 records_held m (Some r ∷ ss) = put (records_held m ss) r.provider r.quarter (m.told r.row)
 
 -- how many slots are free
-unfoldable pub vacancies : {Q R : Type 0} → Measure Q R → List (Slot R) → ℕ
-vacancies m [] = 0
-vacancies m (s ∷ ss) = cond (vacant m s) 1 0 + vacancies m ss
+abbrev pub vacancies : {Q R : Type 0} → Measure Q R → List (Slot R) → ℕ
+vacancies m ss = count_by (vacant m) ss
 
 -- what the record at a place tells: zero where there is none
 abbrev pub told_by_slot : {Q R : Type 0} → Measure Q R → Slot R → Q
@@ -63,7 +56,7 @@ released (Some i) ss = slice_set ss i None
 
 -- the slot that a holding of q takes: none for zero, that of a holding that is not zero, else the first free one
 unfoldable pub place_for : {Q R : Type 0} → Measure Q R → List (Slot R) → ℕ → ℕ → Q → Option ℕ
-place_for m ss p t q = cond (is_zero m q) None (cond (is_zero m (records_held m ss p t)) (first_at (vacant m) ss) (first_at (keyed p t) ss))
+place_for m ss p t q = cond (is_zero m q) None (cond (is_zero m (records_held m ss p t)) (position (vacant m) ss) (position (keyed p t) ss))
 
 -- the slots with q written into the slot at a place
 abbrev pub written : {Q R : Type 0} → Measure Q R → ℕ → ℕ → Q → Option ℕ → List (Slot R) → List (Slot R)
@@ -72,7 +65,7 @@ written m p t q (Some i) ss = slice_set ss i (Some (record { provider = p; quart
 
 -- the slots after the holding of p in t has become q: its record is freed, and its place written
 unfoldable pub settled : {Q R : Type 0} → Measure Q R → List (Slot R) → ℕ → ℕ → Q → List (Slot R)
-settled m ss p t q = written m p t q (place_for m ss p t q) (released (first_at (keyed p t) ss) ss)
+settled m ss p t q = written m p t q (place_for m ss p t q) (released (position (keyed p t) ss) ss)
 
 -- the slots after a change of one holding to what the quantity's call answered, unless it is refused
 abbrev pub changed_slots : {Q R : Type 0} → Measure Q R → List (Slot R) → ℕ → ℕ → Option BookRefusal → Option Q → List (Slot R)

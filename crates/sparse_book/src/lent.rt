@@ -1,15 +1,28 @@
-ghost use Rattle.std.specs.Prelude.{◌≡◌, true};
-ghost use Rattle.sparse_book.specs.Records.{apart};
+ghost use Rattle.std.specs.Prelude.{◌≡◌, map, length, None};
+ghost use Rattle.book.specs.Grid.{amounts};
+ghost use Rattle.sparse_book.specs.Records.{records_held};
 
 use crate::record::Record;
+use crate::record_book::RecordBook;
 use quantity::interface::Quantity;
 use record_list::list::RecordList;
+use std::marker::PhantomData;
 
-pub mod calls;
+/// A sparse book over lent slots.
+pub type SparseBook<'a, K> = RecordBook<&'a mut [Option<Record<<K as Quantity>::Row>>], K>;
 
-/// A book over lent records: it keeps only holdings that are not zero, and has as many places as records.
-#[derive(Drop)]
-pub struct SparseBook<'a, K: Quantity> {
-    records: RecordList<'a, Option<Record<K::Row>>>,
-    ghost apart: { apart records.slots.now ≡ true },
+impl<'a, K: Quantity> SparseBook<'a, K> {
+    /// A book with every holding zero, whatever the records told: each slot is free.
+    pub fn blank(slots: &'a mut [Option<Record<K::Row>>]) -> SparseBook<'a, K>
+        ensures slots { result.slots.now ≡ map (λ _. None) slots.old }
+        ensures empty { amounts K.Quantity.measure (records_held K.Quantity.measure result.slots.now) ≡ (λ _ _. K.Quantity.measure.none) }
+        ensures places { length result.slots.now ≡ length slots.old }
+        ensures lender { result.slots.ghost_name ≡ slots.entry.ghost_name }
+    {
+        let slots = RecordList::filled(slots, None).into_slots();
+        RecordBook {
+            slots,
+            quantity: PhantomData,
+        }
+    }
 }

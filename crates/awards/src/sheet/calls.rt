@@ -1,7 +1,9 @@
 ghost use Rattle.std.specs.Prelude.{◌≡◌, ◌*◌, ◌≤◌};
+ghost use Rattle.awards.specs.Accounts.{most_awards, most_earned};
 ghost use Rattle.awards.specs.Sheets.{view, blank_view};
 
 use crate::sheet::Sheet;
+use crate::sheet::account::Account;
 use book::range::in_range;
 
 impl Sheet {
@@ -10,8 +12,10 @@ impl Sheet {
         ensures { view result ≡ blank_view }
     {
         Sheet {
-            earnings: [0; 32],
-            exempt: [[false; 100]; 32],
+            accounts: [Account {
+                earned: 0,
+                exempt: [false; 100],
+            }; 32],
             awards: 0,
         }
     }
@@ -19,28 +23,24 @@ impl Sheet {
     /// What a provider earned, zero for a provider above 31.
     pub fn earnings(&self, provider: u8) -> u64
         ensures value { result ≡ (view self.now).earned provider }
-        ensures bound { result ≤ (view self.now).awards * 400000000000 }
+        ensures bound { result ≤ (view self.now).awards * most_earned }
     {
-        if provider >= 32 {
-            return 0;
-        }
-        self.earnings[provider as usize]
+        self.accounts
+            .get(provider as usize)
+            .map_or(0, |account| account.earned)
     }
 
     /// Whether a provider is exempt in a quarter: not where there is no such provider or quarter.
     pub fn is_exempt(&self, provider: u8, quarter: u8) -> bool
         ensures { result ≡ (view self.now).exempt provider quarter }
     {
-        if !in_range(provider, quarter) {
-            return false;
-        }
-        self.exempt[provider as usize][quarter as usize]
+        in_range(provider, quarter) && self.accounts[provider as usize].exempt[quarter as usize]
     }
 
     /// How many awards there are.
     pub fn award_count(&self) -> u16
         ensures value { result ≡ (view self.now).awards }
-        ensures bound { result ≤ 512 }
+        ensures bound { result ≤ most_awards }
     {
         self.awards
     }

@@ -1,13 +1,14 @@
 ghost use Rattle.std.specs.Prelude.{◌≡◌, if◌then◌else◌};
 ghost use Rattle.awards.specs.Sheets.{view, entered, enterable};
 
+use crate::prices::MOST_CENTS;
 use crate::sheet::Sheet;
 
 /// How many awards a day has at most.
 pub const MOST_AWARDS: u16 = 512;
 
-// What one award earns at most.
-const MOST_EARNED: u64 = 400_000_000_000;
+// What one award earns at most: 10,000 tenths in 100 quarters, in each of two directions.
+const MOST_EARNED: u64 = MOST_CENTS as u64 * 10_000 * 100 * 2;
 
 impl Sheet {
     // Enters an award of a provider, or leaves the sheet as it is where that cannot be entered.
@@ -18,6 +19,7 @@ impl Sheet {
             return;
         }
         self.awards += 1;
-        self.earnings[provider as usize] += amount;
+        let account = &mut self.accounts[provider as usize];
+        account.earned += amount;
     }
 }

@@ -1,39 +1,24 @@
-use Rattle.std.proofs.Common.{◌≡◌, ℕ, false, length, ap, ◌∙◌, arith}
-use Rattle.std.proofs.lemmas.Bool.{cond-true, cond-false, le-leb, lt-leb}
-use Rattle.quantity.specs.Measure.{is_zero}
+use Rattle.std.proofs.Common.{arith}
 use Rattle.book.specs.Grid.{total, filled}
-use Rattle.book.proofs.Counts.{total_none, total_more, taken_none, taken_is, nothing_zero}
-use Rattle.full_book.specs.Rows.{enough, rows_held}
-use Rattle.full_book.proofs.Tables.{held_few}
+use Rattle.book.proofs.Counts.{total_more}
+use Rattle.full_book.specs.Rows.{rows_held}
+use Rattle.full_book.proofs.Tables.{zeros_counted}
 use Rattle.full_book.proofs.rows.free.Goals as goal
 
-pub returns-then-rows-lt3200 : goal.returns-then-rows-lt3200
-returns-then-rows-lt3200 g c =
+pub overflow_add-free : goal.overflow_add-free
+overflow_add-free g c =
     let m = g.K.Quantity.measure in
-    let few : enough c.args.rows.now ≡ false = lt-leb 3200 (length c.args.rows.now) c.if-rows-lt3200.true in
-    omega (
-      arith,
-      taken_none m (rows_held m c.args.rows.now) (λ p t. ap (is_zero m) (held_few m c.args.rows.now few p t) ∙ nothing_zero m),
-      cond-false {A = ℕ} (enough c.args.rows.now) 3200 0 few,
-    )
-
-pub loop-provider-init : goal.loop-provider-init
-loop-provider-init g c = let m = g.K.Quantity.measure in omega (arith, total_none (λ p. total (filled m (rows_held m c.args.rows.now) p) 100))
+    let held = rows_held m c.args.rows.now in
+    omega (arith, c.loop-provider.invariant, c.free_of-free.ensures, zeros_counted m held c.loop-provider.provider (omega arith))
 
 pub loop-provider-preserved : goal.loop-provider-preserved
 loop-provider-preserved g c =
     let m = g.K.Quantity.measure in
-    omega (arith, c.loop-provider.invariant, c.free_of-free.ensures, total_more (λ p. total (filled m (rows_held m c.args.rows.now) p) 100) c.loop-provider.provider)
-
-pub returns : goal.returns
-returns g c =
-    let m = g.K.Quantity.measure in
-    let rows = c.args.rows.now in
-    let last : c.loop-provider.provider ≡ 32 = omega arith in
+    let held = rows_held m c.args.rows.now in
     omega (
       arith,
       c.loop-provider.invariant,
-      ap (total (λ p. total (filled m (rows_held m rows) p) 100)) last,
-      taken_is m (rows_held m rows),
-      cond-true {A = ℕ} (enough rows) 3200 0 (le-leb 3200 (length rows) c.if-rows-lt3200.false),
+      c.free_of-free.ensures,
+      zeros_counted m held c.loop-provider.provider (omega arith),
+      total_more (λ p. total (filled m held p) 100) c.loop-provider.provider,
     )

@@ -1,29 +1,19 @@
-use Rattle.std.proofs.Common.{◌+◌, sym, refl, ap, ◌∙◌}
-use Rattle.book.specs.Grid.{amounts}
-use Rattle.refusals.specs.First.{unless_refused}
-use Rattle.span_moves.specs.Moves.{moved, move_refusal, move_after}
-use Rattle.gates.specs.Gates.{passing, outcome}
+use Rattle.std.proofs.Common.{◌+◌, refl, ap, sym}
+use Rattle.span_moves.specs.Moves.{move_refusal, move_after}
+use Rattle.gates.specs.Gates.{passing}
 use Rattle.gates.proofs.Moved.{left_alike}
 use Rattle.gates.proofs.passing.make_move.Goals as goal
 
-pub returns : goal.returns
+pub returns-clause-after : goal.returns-clause-after
 unfolding move_after
-returns g c =
+returns-clause-after g c = λ other e.
     let m = g.O.Q.Quantity.measure in
     let held = g.O.Book.holdings c.args.obligations.now in
-    let r = c.args.request in
-    let q = c.passing_quantity-quantity.ensures in
-    let told = c.move_span-made.ensures in
-    let real = told.alike held (passing m r.giving) refl (ap m.amount (sym q)) in
-    record {
-      status = λ other e. c.status_of_move.ensures ∙ ap outcome (told.alike other (passing m r.giving) e (ap m.amount (sym q)));
-      after =
-          λ other e.
-          told.after
-          ∙ ((λ i. unless_refused (move_refusal m held (g.O.Book.places c.args.obligations.now) (g.O.Book.admission c.args.obligations.now) r.giver r.taker r.first r.last (q i)) (moved m held r.giver r.taker (q i) r.first (r.last + 1)) (amounts m held))
-          ∙ (ap (λ o. unless_refused o (moved m held r.giver r.taker (passing m r.giving) r.first (r.last + 1)) (amounts m held)) (sym real ∙ told.alike other (passing m r.giving) e (ap m.amount (sym q)))
-          ∙ left_alike m held other (passing m r.giving) e (move_refusal m other (g.O.Book.places c.args.obligations.now) (g.O.Book.admission c.args.obligations.now) r.giver r.taker r.first r.last (passing m r.giving)) r.giver r.taker r.first (r.last + 1)));
-      places = told.places;
-      admission = told.admission;
-      layer = told.layer;
-    }
+    let p = c.args.request.passage in
+    let same = c.passing_quantity-quantity.ensures in
+    let made = c.move_span-made.ensures in
+    let here = made.alike held c.passing_quantity-quantity.result refl refl in
+    let there = made.alike other (passing m c.args.request.giving) e (ap m.amount (sym same)) in
+    let after = made.after in
+    let left = left_alike m held other (passing m c.args.request.giving) e (move_refusal m other (g.O.Book.places c.args.obligations.now) (g.O.Book.admission c.args.obligations.now) p.giver p.taker p.first p.last (passing m c.args.request.giving)) p.giver p.taker p.first (p.last + 1) in
+    cc

@@ -1,19 +1,15 @@
-use Rattle.std.proofs.Common.{sym, ◌∙◌, arith}
-use Rattle.requests.specs.Requests.{matching}
-use Rattle.requests.proofs.Places.{place_hit, place_miss, place_start, place_end}
+use Rattle.std.proofs.Common.{◌≡◌, true, false, rules, tests}
+use Rattle.std.proofs.lemmas.Iterator.{first_from_Range}
+use Rattle.std.specs.List.{slice_get}
+use Rattle.requests.specs.Requests.{matching, holds_of}
+use Rattle.requests.proofs.Places.{first_is}
 use Rattle.requests.proofs.finding.find_request.Goals as goal
-
-pub loop-place-init : goal.loop-place-init
-loop-place-init g c = place_start (matching c.args.joining c.args.giver c.args.taker c.args.first c.args.last)
-
-pub returns-then-is_match : goal.returns-then-is_match
-returns-then-is_match g c =
-    sym (place_hit (matching c.args.joining c.args.giver c.args.taker c.args.first c.args.last) (g.L.Records.contents c.args.list.now) c.loop-place.place (sym c.is_match.ensures ∙ c.if-is_match.true) c.loop-place.invariant)
-
-pub loop-place-preserved : goal.loop-place-preserved
-loop-place-preserved g c =
-    place_miss (matching c.args.joining c.args.giver c.args.taker c.args.first c.args.last) (g.L.Records.contents c.args.list.now) c.loop-place.place (sym c.is_match.ensures ∙ c.if-is_match.false) c.loop-place.invariant
 
 pub returns : goal.returns
 returns g c =
-    sym (place_end (matching c.args.joining c.args.giver c.args.taker c.args.first c.args.last) (g.L.Records.contents c.args.list.now) c.loop-place.place (omega arith) c.loop-place.invariant)
+    let xs = g.L.Records.contents c.args.list.now in
+    let test = matching c.args.joining c.args.passage in
+    first_is test xs c.count.result c.count.ensures c.find.result
+    (first_from_Range _ _ _ _ (λ k. holds_of test (slice_get xs k) ≡ true) (λ k. holds_of test (slice_get xs k) ≡ false) c.find.ensures.ran
+    (λ x q k. search (rules, tests))
+    (λ x q k. search (rules, tests)))

@@ -1,174 +1,63 @@
-use Rattle.std.proofs.Common.{◌≡◌, ◌-◌, ◌<◌, ◌≤◌, is_some, Some, None, sym, refl, ap, ◌∙◌, arith}
-use Rattle.book.specs.Grid.{taken}
-use Rattle.refusals.specs.declared.refusal.Refusal.TheVariants.{NoSuchProvider, NoSuchSpan, NoFreePlace}
+use Rattle.std.proofs.Common.{Some, None, sym, refl, ap}
+use Rattle.std.specs.Result.{result_err}
+use Rattle.std.proofs.lemmas.Result.{err_from_is_err_and}
 use Rattle.refusals.specs.Numbers.{answer_number}
-use Rattle.span_moves.specs.Spans.{left_after, count}
-use Rattle.span_moves.proofs.Firsts.{none_from}
-use Rattle.span_moves.proofs.Shares.{all_fit}
-use Rattle.span_moves.proofs.Whole.{kept, done, no_such_provider, no_such_span, misfit_first, barred_first, by_room, welcome_from}
+use Rattle.span_moves.specs.Spans.{Alike}
+use Rattle.span_moves.specs.Moves.{span_refusal}
+use Rattle.span_moves.proofs.Whole.{span_refusal-shape, span_refusal-checks, span_after-is}
+use Rattle.span_moves.proofs.spans.change_span.Given as given
 use Rattle.span_moves.proofs.spans.change_span.Goals as goal
+use Rattle.span_moves.proofs.spans.change_span.Goals.{After-check}
 
-pub returns-then-provider-ge32 : goal.returns-then-provider-ge32
-returns-then-provider-ge32 g c =
-    let m = g.B.Q.Quantity.measure in
+-- what the checks answer is the answer of the whole
+checked : (g : given.Over) (c : After-check g) → Alike g.B.Q.Quantity.measure (g.B.Book.holdings c.args.book.now) c.args.quantity (λ other r. span_refusal g.B.Q.Quantity.measure other (g.B.Book.places c.args.book.now) (g.B.Book.admission c.args.book.now) c.args.change c.args.provider c.args.first c.args.last r) (result_err c.check.result)
+checked g c other r e f =
+    let parts = c.in_ok-planned.ensures.parts in
+    let told = rw (parts.0, parts.1, parts.2, parts.3, parts.4) at c.check.ensures.alike in
+    rw (span_refusal-checks c.args.provider c.args.first c.args.last (sym c.in_ok-planned.ensures.refusal)) (told other r e f)
+
+pub returns-in_err-planned : goal.returns-in_err-planned
+returns-in_err-planned g c =
     let held = g.B.Book.holdings c.args.book.now in
-    let places = g.B.Book.places c.args.book.now in
-    let admission = g.B.Book.admission c.args.book.now in
-    let change = c.args.change in
-    let p = c.args.provider in
-    let first = c.args.first in
-    let last = c.args.last in
-    let q = c.args.quantity in
-    let told = no_such_provider m held places admission change p first last q c.if-provider-ge32.true in
+    let p = err_from_is_err_and c.from_residual.result c.from_residual.ensures.1 in
+    let no = span_refusal-shape c.args.provider c.args.first c.args.last c.in_err-planned.field-0.0 (sym c.in_err-planned.ensures.refusal) in
+    let why = sym (no g.B.Q.Quantity.measure held (g.B.Book.places c.args.book.now) (g.B.Book.admission c.args.book.now) c.args.change c.args.quantity) in
     record {
-      answer = ap answer_number (told held q refl refl);
-      alike = told;
-      after = kept m held places admission change p first last q NoSuchProvider told;
+      answer = rw (p.1, p.2) (ap answer_number why);
+      alike = λ other r e f. rw (p.1, p.2, no) refl;
+      after = rw (span_after-is (Some c.in_err-planned.field-0.0)) refl;
       places = refl;
       admission = refl;
       layer = refl;
     }
 
-pub returns-then-first-last : goal.returns-then-first-last
-returns-then-first-last g c =
-    let m = g.B.Q.Quantity.measure in
+pub returns-in_err-check : goal.returns-in_err-check
+returns-in_err-check g c =
     let held = g.B.Book.holdings c.args.book.now in
-    let places = g.B.Book.places c.args.book.now in
-    let admission = g.B.Book.admission c.args.book.now in
-    let change = c.args.change in
-    let p = c.args.provider in
-    let first = c.args.first in
-    let last = c.args.last in
-    let q = c.args.quantity in
-    let told = no_such_span m held places admission change p first last q c.if-provider-ge32.false (λ h k. omega (arith, c.then-first-last.either)) in
+    let p = err_from_is_err_and c.from_residual-in_err-check.result c.from_residual-in_err-check.ensures.1 in
+    let told = rw c.in_err-check.was at (checked g (goal.at.returns-in_err-check g c).After-check) in
+    let why = told held c.args.quantity refl refl in
     record {
-      answer = ap answer_number (told held q refl refl);
-      alike = told;
-      after = kept m held places admission change p first last q NoSuchSpan told;
+      answer = rw (p.1, p.2) (ap answer_number why);
+      alike = rw (p.1, p.2) told;
+      after = rw (span_after-is (Some c.in_err-check.field-0.0)) refl;
       places = refl;
       admission = refl;
       layer = refl;
-    }
-
-pub returns-in-Err : goal.returns-in-Err
-returns-in-Err g c =
-    let m = g.B.Q.Quantity.measure in
-    let held = g.B.Book.holdings c.args.book.now in
-    let places = g.B.Book.places c.args.book.now in
-    let admission = g.B.Book.admission c.args.book.now in
-    let change = c.args.change in
-    let p = c.args.provider in
-    let first = c.args.first in
-    let last = c.args.last in
-    let q = c.args.quantity in
-    let hp : p < 32 = omega arith in
-    let hs : first ≤ last = omega arith in
-    let hl : last < 100 = omega arith in
-    let told = misfit_first m held places admission change p first last q hp hs hl c.in-Err.misfit (sym c.in-Err.ensures) in
-    record {
-      answer = ap answer_number (told held q refl refl);
-      alike = told;
-      after = kept m held places admission change p first last q c.in-Err.misfit told;
-      places = refl;
-      admission = refl;
-      layer = refl;
-    }
-
-pub returns-in-Err-check_welcome : goal.returns-in-Err-check_welcome
-returns-in-Err-check_welcome g c =
-    let m = g.B.Q.Quantity.measure in
-    let held = g.B.Book.holdings c.args.book.now in
-    let places = g.B.Book.places c.args.book.now in
-    let admission = g.B.Book.admission c.args.book.now in
-    let change = c.args.change in
-    let p = c.args.provider in
-    let first = c.args.first in
-    let last = c.args.last in
-    let q = c.args.quantity in
-    let hp : p < 32 = omega arith in
-    let hs : first ≤ last = omega arith in
-    let hl : last < 100 = omega arith in
-    let told = barred_first m held places admission change p first last q hp hs hl (sym c.in_default.ensures) c.in-Err-check_welcome.barred c.in-Err-check_welcome.ensures in
-    record {
-      answer = ap answer_number (told held q refl refl);
-      alike = told;
-      after = kept m held places admission change p first last q c.in-Err-check_welcome.barred told;
-      places = refl;
-      admission = refl;
-      layer = refl;
-    }
-
-pub returns-then-is_none : goal.returns-then-is_none
-returns-then-is_none g c =
-    let m = g.B.Q.Quantity.measure in
-    let held = g.B.Book.holdings c.args.book.now in
-    let places = g.B.Book.places c.args.book.now in
-    let admission = g.B.Book.admission c.args.book.now in
-    let change = c.args.change in
-    let p = c.args.provider in
-    let first = c.args.first in
-    let last = c.args.last in
-    let q = c.args.quantity in
-    let hp : p < 32 = omega arith in
-    let hs : first ≤ last = omega arith in
-    let hl : last < 100 = omega arith in
-    let free : c.free-free.result ≡ places - taken m held = omega (arith, c.free-free.ensures) in
-    let gone : left_after m held change p q (Some (places - taken m held)) first (count first last) ≡ None = ap (λ k. left_after m held change p q (Some k) first (count first last)) (sym free) ∙ (sym c.count_places.ensures ∙ none_from c.count_places.result c.if-is_none.ensures) in
-    let told = by_room m held places admission change p first last q hp hs hl (sym c.in_default.ensures) c.in_default-check_welcome.ensures None gone in
-    record {
-      answer = ap answer_number (told held q refl refl);
-      alike = told;
-      after = kept m held places admission change p first last q NoFreePlace told;
-      places = refl;
-      admission = refl;
-      layer = refl;
-    }
-
-pub apply_span-requires : goal.apply_span-requires
-apply_span-requires g c =
-    let m = g.B.Q.Quantity.measure in
-    let held = g.B.Book.holdings c.args.book.now in
-    let places = g.B.Book.places c.args.book.now in
-    let admission = g.B.Book.admission c.args.book.now in
-    let change = c.args.change in
-    let p = c.args.provider in
-    let first = c.args.first in
-    let last = c.args.last in
-    let q = c.args.quantity in
-    let hp : p < 32 = omega arith in
-    let hs : first ≤ last = omega arith in
-    let hl : last < 100 = omega arith in
-    let free : c.free-free.result ≡ places - taken m held = omega (arith, c.free-free.ensures) in
-    record {
-      provider = hp;
-      order = hs;
-      end = hl;
-      fits = all_fit m held p first last q change (sym c.in_default.ensures);
-      welcome = welcome_from m held places admission change p first last q c.in_default-check_welcome.ensures;
-      bound = omega (arith, c.free-free.ensures);
-      room = ap is_some (ap (λ k. left_after m held change p q (Some k) first (count first last)) (sym free) ∙ sym c.count_places.ensures) ∙ c.if-is_none.ensures;
     }
 
 pub returns : goal.returns
 returns g c =
-    let m = g.B.Q.Quantity.measure in
     let held = g.B.Book.holdings c.args.book.now in
-    let places = g.B.Book.places c.args.book.now in
-    let admission = g.B.Book.admission c.args.book.now in
-    let change = c.args.change in
-    let p = c.args.provider in
-    let first = c.args.first in
-    let last = c.args.last in
-    let q = c.args.quantity in
-    let hp : p < 32 = omega arith in
-    let hs : first ≤ last = omega arith in
-    let hl : last < 100 = omega arith in
-    let told = by_room m held places admission change p first last q hp hs hl (sym c.in_default.ensures) c.in_default-check_welcome.ensures (Some _) c.apply_span.ensures.left in
+    let told = rw c.in_ok-check.was at (checked g (goal.at.returns g c).After-check) in
+    let why = told held c.args.quantity refl refl in
+    let parts = c.in_ok-planned.ensures.parts in
+    let changed = rw (parts.0, parts.1, parts.2, parts.3, parts.4) at c.apply.ensures.after in
     record {
-      answer = ap answer_number (told held q refl refl);
+      answer = ap answer_number why;
       alike = told;
-      after = c.apply_span.ensures.after ∙ done m held places admission change p first last q told;
-      places = c.apply_span.ensures.places;
-      admission = c.apply_span.ensures.admission;
-      layer = c.apply_span.ensures.layer;
+      after = rw (span_after-is None) changed;
+      places = c.apply.ensures.places;
+      admission = c.apply.ensures.admission;
+      layer = c.apply.ensures.layer;
     }

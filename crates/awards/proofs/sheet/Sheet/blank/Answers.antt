@@ -1,17 +1,22 @@
-use Rattle.std.proofs.Common.{◌≡◌, ℕ, ◌≤◌, Bool, true, false, cond, get_or, replicate, refl, arith}
+use Rattle.std.proofs.Common.{◌≡◌, ℕ, ◌≤◌, Bool, true, false, cond, [], get_or, replicate, refl, arith}
 use Rattle.book.specs.Grid.{in_range}
-use Rattle.awards.proofs.Repeated.{get_or_repeated, get_or_repeated_rows}
+use Rattle.awards.specs.declared.sheet.account.Account.{Account}
+use Rattle.awards.specs.Accounts.{account_of}
+use Rattle.awards.proofs.Repeated.{at_repeated}
 use Rattle.awards.proofs.sheet.Sheet.blank.Goals as goal
 
-earned_none : (n p : ℕ) → get_or (replicate n 0) p 0 ≤ 0
-earned_none n p = omega (arith, get_or_repeated {A = ℕ} n p 0)
+abbrev blank_account : Account
+blank_account = record { earned = 0; exempt = replicate 100 false }
 
-either : (b : Bool) (x : Bool) → x ≡ false → cond b x false ≡ false
-either true x e = e
-either false x e = refl
+abbrev at : (P : Account → Type 0) (p : ℕ) → P blank_account → P (record { earned = 0; exempt = [] }) → P (account_of (replicate 32 blank_account) p)
+at P p = at_repeated P 32 p blank_account (record { earned = 0; exempt = [] })
+
+unexempted : (p t : ℕ) (b : Bool) → cond b (get_or (account_of (replicate 32 blank_account) p).exempt t false) false ≡ false
+unexempted p t true = at (λ a. get_or a.exempt t false ≡ false) p (at_repeated (λ x. x ≡ false) 100 t false false refl refl) refl
+unexempted p t false = refl
 
 pub invariant_of-result : goal.invariant_of-result
-invariant_of-result c = record { few = omega arith; bounded = earned_none 32 }
+invariant_of-result c = record { few = omega arith; bounded = λ p. at (λ a. a.earned ≤ 0) p (omega arith) (omega arith) }
 
 pub returns : goal.returns
-returns c = λ i. record { earned = λ p. get_or_repeated 32 p 0 i; exempt = λ p t. either (in_range p t) _ (get_or_repeated_rows 32 100 p t false) i; awards = 0 }
+returns c = λ i. record { earned = λ p. at (λ a. a.earned ≡ 0) p refl refl i; exempt = λ p t. unexempted p t (in_range p t) i; awards = 0 }

@@ -1,4 +1,4 @@
-use Rattle.std.proofs.Common.{◌<◌, ltb, length, sym, refl, subst, arith, length-set}
+use Rattle.std.proofs.Common.{◌<◌, ltb, length, sym, subst, arith, length-set}
 use Rattle.std.proofs.lemmas.Bool.{lt-ltb}
 use Rattle.day_calls.specs.Days.{state_of}
 use Rattle.laws.specs.Laws.{Performed}
@@ -12,13 +12,11 @@ returns g c =
     let state = state_of g.O.Book.holdings g.O.Book.places g.O.Book.admission g.B.Book.holdings g.L.Records.contents g.L.Records.places in
     let desks = c.args.self.now.desks.items in
     let here : c.args.day < length desks = omega (arith, c.args.self.now.desks.ok.0) in
-    let new = c.perform_on-answer.new.desk in (
-      refl,
-      called (ltb c.args.day (length desks)) (lt-ltb c.args.day (length desks) here)
-          (record {
-            then = state new;
-            performed = subst (λ s. Performed m g.O.Q.ReserveQuantity.tenths_in g.O.Q.ReserveQuantity.directions s c.args.call c.perform_on-answer.result (state new)) (sym (day_at state (absent_day m) desks c.args.day c.index_mut.result.now here c.index_mut.ensures.value)) c.perform_on-answer.ensures.performed;
-            days_are = day_changed state (absent_day m) desks c.args.day new here;
-            count_stays = length-set desks c.args.day new;
-          }),
-    )
+    let new = c.perform_on.new.desk in
+    called (ltb c.args.day (length desks)) (lt-ltb c.args.day (length desks) here)
+    (record {
+      then = state new;
+      performed = subst (λ s. Performed m g.O.Q.ReserveQuantity.tenths_in g.O.Q.ReserveQuantity.directions s c.args.call.now c.perform_on.result (state new)) (sym (day_at state (absent_day m) desks c.args.day c.index_mut.result.now here c.index_mut.ensures.value)) c.perform_on.ensures.performed;
+      days_are = day_changed state (absent_day m) desks c.args.day new here;
+      count_stays = length-set desks c.args.day new;
+    })

@@ -10,5 +10,5 @@ returns g c =
     let desks = c.args.self.now.desks.items in
     record {
       stepped = c.make.ensures;
-      law = λ h laws. stepped_keeps g.O.Q.Quantity.measure g.O.Q.ReserveQuantity.tenths_in g.O.Q.ReserveQuantity.directions (bureau_of g.O.Q.Quantity.measure state desks) (bureau_of g.O.Q.Quantity.measure state c.make.new.self.desks.items) c.args.call c.make.result (none_past g.O.Q.Quantity.measure state desks) c.make.ensures h laws;
+      law = λ h laws. stepped_keeps g.O.Q.Quantity.measure g.O.Q.ReserveQuantity.tenths_in g.O.Q.ReserveQuantity.directions (bureau_of g.O.Q.Quantity.measure state desks) (bureau_of g.O.Q.Quantity.measure state c.make.new.self.desks.items) c.args.call.now c.make.result (none_past g.O.Q.Quantity.measure state desks) c.make.ensures h laws;
     }

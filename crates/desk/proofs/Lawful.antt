@@ -1,0 +1,12 @@
+-- A call that is performed as defined keeps the law.
+use Rattle.std.proofs.Common.{ℕ}
+use Rattle.quantity.specs.Measure.{Measure}
+use Rattle.day_calls.specs.declared.calls.DayCall.{DayCall}
+use Rattle.day_calls.specs.Answers.{Outcome}
+use Rattle.day_calls.specs.Days.{DayState}
+use Rattle.laws.specs.Laws.{Performed, KeepsLaw}
+use Rattle.laws.proofs.Theorem.{kept}
+
+module _ {Q R : Type 0} {m : Measure Q R} {tenths : Q → ℕ → ℕ} {directions : ℕ} {before after : DayState Q R} {call : DayCall Q} {outcome : Outcome Q} where
+  pub lawful : Performed m tenths directions before call outcome after → record { performed : Performed m tenths directions before call outcome after; law : KeepsLaw m tenths directions before call outcome after }
+  lawful p = record { performed = p; law = kept m tenths directions before after call outcome p }

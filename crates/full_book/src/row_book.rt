@@ -1,0 +1,116 @@
+ghost use Rattle.std.specs.Prelude.{◌≡◌, ℕ, true, drop};
+ghost use Rattle.std.specs.Result.{result_err};
+ghost use Rattle.book.specs.Numbers.{answer_number};
+ghost use Rattle.book.specs.Grid.{in_range, amounts};
+ghost use Rattle.book.specs.Calls.{everything, changed, change_refusal, raise_refusal, lower_refusal, raised, lowered};
+ghost use Rattle.full_book.specs.Rows.{rows_held, rows_places};
+
+use crate::rows;
+use book::answers::{BookRefusal, Cause};
+use book::interface::Book;
+use book::range::in_range;
+use quantity::interface::Quantity;
+use record_list::slots::Slots;
+use std::marker::PhantomData;
+
+/// A book over rows, lent or owned, one for each of 32 providers and 100 quarters: 3,200 places.
+/// Over fewer rows it has no place and holds zero. Rows beyond 3,200 are never touched.
+#[derive(Drop)]
+pub struct RowBook<M, K> {
+    pub(crate) rows: M,
+    pub(crate) quantity: PhantomData<K>,
+}
+
+impl<M: Slots<Slot = K::Row>, K: Quantity> RowBook<M, K> {
+    // Replaces a holding by `new`, refuses as told where that is none, or where there is no free place.
+    #[tactic(auto, using(std::proofs::lemmas::Bool::Decides::nat_tests, crate::proofs::Tables::written_answer, crate::proofs::Tables::written_after, crate::proofs::Tables::few_zero_after, crate::proofs::Tables::few_answer, book::proofs::Grids::range_parts))]
+    fn change(
+        &mut self,
+        provider: u8,
+        quarter: u8,
+        new: Option<K>,
+        refusal: BookRefusal,
+    ) -> Result<(), BookRefusal>
+        requires { in_range provider quarter ≡ true }
+        ensures answer { result_err result ≡ change_refusal K.Quantity.measure (rows_held K.Quantity.measure (M.slots self.old.rows)) (rows_places (M.slots self.old.rows)) refusal (everything provider quarter) provider quarter new }
+        ensures after { amounts K.Quantity.measure (rows_held K.Quantity.measure (M.slots self.new.rows)) ≡ changed K.Quantity.measure (rows_held K.Quantity.measure (M.slots self.old.rows)) provider quarter (result_err result) new }
+        ensures places { rows_places (M.slots self.new.rows) ≡ rows_places (M.slots self.old.rows) }
+        ensures beyond { drop 3200 (M.slots self.new.rows) ≡ drop 3200 (M.slots self.old.rows) }
+        ensures lender { M.loan self.new.rows ≡ M.loan self.old.rows }
+    {
+        let quantity = new.ok_or(refusal)?;
+        if self.rows.slots().len() >= 3200 {
+            self.rows
+                .write(provider as usize * 100 + quarter as usize, quantity.row());
+            return Ok(());
+        }
+        if quantity.equals(K::zero()) {
+            Ok(())
+        } else {
+            Err(BookRefusal::NoFreePlace)
+        }
+    }
+}
+
+impl<M: Slots<Slot = K::Row>, K: Quantity> Book for RowBook<M, K> {
+    type Q = K;
+
+    ghost holdings = { λ s. rows_held K.Quantity.measure (M.slots s.rows) };
+
+    ghost places = { λ s. rows_places (M.slots s.rows) };
+
+    ghost admission = { λ _. everything };
+
+    ghost layer_number = { λ _. 0 };
+
+    fn holding(&self, provider: u8, quarter: u8) -> K {
+        rows::holding(self.rows.slots(), provider, quarter)
+    }
+
+    fn free(&self) -> usize {
+        rows::free::<K>(self.rows.slots())
+    }
+
+    fn admits(&self, provider: u8, quarter: u8, quantity: K) -> Result<(), Cause> {
+        Ok(())
+    }
+
+    fn layer(&self) -> u8 {
+        0
+    }
+
+    // The interface's promises once more, and two of this book's own: rows beyond 3,200 stay, and so does the loan.
+    #[tactic(auto, using(book::proofs::Changes::raise_outside, book::proofs::Changes::raise_outside_after, book::proofs::Changes::raise_answer, book::proofs::Changes::raise_after))]
+    fn raise(&mut self, provider: u8, quarter: u8, quantity: K) -> Result<(), BookRefusal>
+        ensures answer { answer_number (result_err result) ≡ answer_number (raise_refusal K.Quantity.measure (rows_held K.Quantity.measure (M.slots self.old.rows)) (rows_places (M.slots self.old.rows)) everything provider quarter quantity) }
+        ensures after { amounts K.Quantity.measure (rows_held K.Quantity.measure (M.slots self.new.rows)) ≡ raised K.Quantity.measure (rows_held K.Quantity.measure (M.slots self.old.rows)) (rows_places (M.slots self.old.rows)) everything provider quarter quantity }
+        ensures places { rows_places (M.slots self.new.rows) ≡ rows_places (M.slots self.old.rows) }
+        ensures admission { everything {Q = K} ≡ everything }
+        ensures layer { ◌≡◌ {A = ℕ} 0 0 }
+        ensures beyond { drop 3200 (M.slots self.new.rows) ≡ drop 3200 (M.slots self.old.rows) }
+        ensures lender { M.loan self.new.rows ≡ M.loan self.old.rows }
+    {
+        if !in_range(provider, quarter) {
+            return Err(BookRefusal::OutsideRange);
+        }
+        let sum = self.holding(provider, quarter).join(quantity);
+        self.change(provider, quarter, sum, BookRefusal::SumDoesNotFit)
+    }
+
+    #[tactic(auto, using(book::proofs::Changes::lower_outside, book::proofs::Changes::lower_outside_after, book::proofs::Changes::lower_answer, book::proofs::Changes::lower_after))]
+    fn lower(&mut self, provider: u8, quarter: u8, quantity: K) -> Result<(), BookRefusal>
+        ensures answer { answer_number (result_err result) ≡ answer_number (lower_refusal K.Quantity.measure (rows_held K.Quantity.measure (M.slots self.old.rows)) (rows_places (M.slots self.old.rows)) provider quarter quantity) }
+        ensures after { amounts K.Quantity.measure (rows_held K.Quantity.measure (M.slots self.new.rows)) ≡ lowered K.Quantity.measure (rows_held K.Quantity.measure (M.slots self.old.rows)) (rows_places (M.slots self.old.rows)) provider quarter quantity }
+        ensures places { rows_places (M.slots self.new.rows) ≡ rows_places (M.slots self.old.rows) }
+        ensures admission { everything {Q = K} ≡ everything }
+        ensures layer { ◌≡◌ {A = ℕ} 0 0 }
+        ensures beyond { drop 3200 (M.slots self.new.rows) ≡ drop 3200 (M.slots self.old.rows) }
+        ensures lender { M.loan self.new.rows ≡ M.loan self.old.rows }
+    {
+        if !in_range(provider, quarter) {
+            return Err(BookRefusal::OutsideRange);
+        }
+        let left = self.holding(provider, quarter).remainder(quantity);
+        self.change(provider, quarter, left, BookRefusal::NoRemainder)
+    }
+}

@@ -1,0 +1,7 @@
+use Rattle.std.proofs.Common.{arith, length-take}
+use Rattle.std.proofs.Math.Seq.{take-set-lt}
+use Rattle.record_list.proofs.list.RecordListRecords.replace.Goals as goal
+
+pub returns-then-found-clause-contents : goal.returns-then-found-clause-contents
+returns-then-found-clause-contents g c =
+    take-set-lt c.args.self.now.used c.args.self.now.slots.now c.args.place c.args.item (omega (arith, length-take c.args.self.now.used c.args.self.now.slots.now))

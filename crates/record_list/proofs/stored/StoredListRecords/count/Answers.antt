@@ -1,6 +1,0 @@
-use Rattle.std.proofs.Common.{arith}
-use Rattle.std.proofs.lemmas.List.{length-take}
-use Rattle.record_list.proofs.stored.StoredListRecords.count.Goals as goal
-
-pub returns-else-self-room : goal.returns-else-self-room
-returns-else-self-room g c = omega (arith, length-take c.args.self.now.used c.args.self.now.slots.items, c.args.self.now.slots.ok.0)

@@ -1,6 +1,0 @@
-use Rattle.std.proofs.Common.{◌≡◌, take, None}
-use Rattle.requests.specs.Requests.{matching, first_place}
-use Rattle.requests.proofs.finding.find_request.Given as goal
-
-abbrev pub invariant-loop-place : goal.invariant-loop-place
-invariant-loop-place g l = first_place (matching l.joining l.giver l.taker l.first l.last) (take l.place (g.L.Records.contents l.list)) ≡ None

@@ -1,6 +1,0 @@
-use Rattle.span_moves.specs.Spans.{unfit}
-use Rattle.span_moves.proofs.Firsts.{Clear}
-use Rattle.span_moves.proofs.checks.check_fits.Given as goal
-
-abbrev pub invariant-loop-quarter : goal.invariant-loop-quarter
-invariant-loop-quarter g l = Clear (unfit g.B.Q.Quantity.measure (g.B.Book.holdings l.book) l.change l.provider l.quantity) l.first l.quarter

@@ -1,0 +1,153 @@
+ghost use Rattle.std.specs.Prelude.{◌≡◌, ◌+◌, ◌-◌, ◌^◌, ◌<◌, ◌≤◌, [], ◌∷◌, Some, IfOk, OnOk};
+ghost use Rattle.std.specs.Result.{result_err};
+ghost use Rattle.quantity.specs.Measure.{is_zero};
+ghost use Rattle.book.specs.Grid.{amounts, taken};
+ghost use Rattle.refusals.specs.First.{first_some};
+ghost use Rattle.span_moves.specs.Spans.{Alike, first_of, unfit, spanned, step_left, left_after, count, no_provider, no_span};
+ghost use Rattle.span_moves.specs.Moves.{unwelcome, change_checks};
+ghost use Rattle.span_moves.specs.Ready.{Ready};
+
+use crate::change::Change;
+use crate::span::{Provider, Span};
+use book::interface::Book;
+use quantity::interface::Quantity;
+use refusals::refusal::Refusal;
+
+/// One change of a provider's holdings, by one quantity in every quarter of a span.
+#[derive(Clone, Copy)]
+pub struct SpanChange<Q> {
+    pub change: Change,
+    pub provider: Provider,
+    pub span: Span,
+    pub quantity: Q,
+}
+
+impl<Q: Quantity> SpanChange<Q> {
+    pub fn new(
+        change: Change,
+        provider: u8,
+        first: u8,
+        last: u8,
+        quantity: Q,
+    ) -> Result<SpanChange<Q>, Refusal>
+        ensures refusal { result_err result ≡ first_some (no_provider provider ∷ (no_span first last ∷ [])) }
+        ensures parts { IfOk result (λ x. (x.change ≡ change) × (x.provider.number ≡ provider) × (x.span.first ≡ first) × (x.span.last ≡ last) × (x.quantity ≡ quantity)) }
+    {
+        Ok(SpanChange {
+            change,
+            provider: Provider::try_from(provider)?,
+            span: Span::new(first, last)?,
+            quantity,
+        })
+    }
+
+    // What the provider holds in a quarter.
+    fn held<B: Book<Q = Q>>(self, book: &B, quarter: u8) -> Q
+        requires { quarter < 100 }
+        ensures { result ≡ B.Book.holdings book.now self.provider.number quarter }
+    {
+        book.holding(self.provider.number, quarter)
+    }
+
+    /// Refuses the first quarter in which the changed holding does not fit.
+    pub fn check_fits<B: Book<Q = Q>>(self, book: &B) -> Result<(), Refusal>
+        ensures { result_err result ≡ first_of (unfit Q.Quantity.measure (B.Book.holdings book.now) self.change self.provider.number self.quantity) self.span.first (count self.span.first self.span.last) }
+    {
+        for quarter in self.span.first..=self.span.last {
+            let changed = self.change.next(self.held(book, quarter), self.quantity);
+            changed.ok_or(self.change.misfit(self.provider, quarter))?;
+        }
+        Ok(())
+    }
+
+    // Refuses a quarter in which the changed holding is not admitted.
+    fn check_quarter<B: Book<Q = Q>>(self, book: &B, quarter: u8) -> Result<(), Refusal>
+        requires { quarter < 100 }
+        ensures { Alike Q.Quantity.measure (B.Book.holdings book.now) self.quantity (λ other q. unwelcome Q.Quantity.measure other (B.Book.places book.now) (B.Book.admission book.now) self.change self.provider.number q quarter) (result_err result) }
+    {
+        let provider = self.provider.number;
+        let Some(changed) = self.change.next(self.held(book, quarter), self.quantity) else {
+            return Ok(());
+        };
+        self.change
+            .admits(book, self.provider, quarter, changed)
+            .map_err(|cause| Refusal::NotAdmitted {
+                provider,
+                quarter,
+                cause,
+            })
+    }
+
+    /// Refuses the first quarter in which the changed holding is not admitted.
+    /// All holdings and quantities of the same amounts are answered alike.
+    pub fn check_admitted<B: Book<Q = Q>>(self, book: &B) -> Result<(), Refusal>
+        ensures { Alike Q.Quantity.measure (B.Book.holdings book.now) self.quantity (λ other q. first_of (unwelcome Q.Quantity.measure other (B.Book.places book.now) (B.Book.admission book.now) self.change self.provider.number q) self.span.first (count self.span.first self.span.last)) (result_err result) }
+    {
+        for quarter in self.span.first..=self.span.last {
+            self.check_quarter(book, quarter)?;
+        }
+        Ok(())
+    }
+
+    /// How many places are free after the change of each quarter, by rising quarter; none where a place is wanting.
+    /// A count of 128 bits cannot overflow, however many places a book has.
+    pub fn count_places<B: Book<Q = Q>>(self, book: &B, free: u128) -> Option<u128>
+        requires { free < 2 ^ 65 }
+        ensures { result ≡ left_after Q.Quantity.measure (B.Book.holdings book.now) self.change self.provider.number self.quantity (Some free) self.span.first (count self.span.first self.span.last) }
+    {
+        let mut left = free;
+        for quarter in self.span.first..=self.span.last {
+            let held = self.held(book, quarter);
+            let changed = self.change.next(held, self.quantity).unwrap_or(held);
+            left = after_step(left, is_zero(held), is_zero(changed))?;
+        }
+        Some(left)
+    }
+
+    /// Refuses a change of which the book cannot take every quarter.
+    pub fn check<B: Book<Q = Q>>(self, book: &B) -> Result<(), Refusal>
+        ensures alike { Alike Q.Quantity.measure (B.Book.holdings book.now) self.quantity (λ other q. change_checks Q.Quantity.measure other (B.Book.places book.now) (B.Book.admission book.now) self.change self.provider.number self.span.first self.span.last q) (result_err result) }
+        ensures ready { OnOk result (Ready Q.Quantity.measure (B.Book.holdings book.now) (B.Book.places book.now) (B.Book.admission book.now) self.change self.provider.number self.span.first self.span.last self.quantity) }
+    {
+        self.check_fits(book)?;
+        self.check_admitted(book)?;
+        let free = book.free() as u128;
+        self.count_places(book, free).ok_or(Refusal::NoFreePlace)?;
+        Ok(())
+    }
+
+    /// Changes every holding of the span.
+    pub fn apply<B: Book<Q = Q>>(self, book: &mut B)
+        requires { Ready Q.Quantity.measure (B.Book.holdings book.old) (B.Book.places book.old) (B.Book.admission book.old) self.change self.provider.number self.span.first self.span.last self.quantity }
+        ensures after { amounts Q.Quantity.measure (B.Book.holdings book.new) ≡ spanned Q.Quantity.measure (B.Book.holdings book.old) self.change self.provider.number self.quantity self.span.first (self.span.last + 1) }
+        ensures left { left_after Q.Quantity.measure (B.Book.holdings book.old) self.change self.provider.number self.quantity (Some (B.Book.places book.old - taken Q.Quantity.measure (B.Book.holdings book.old))) self.span.first (count self.span.first self.span.last) ≡ Some (B.Book.places book.old - taken Q.Quantity.measure (B.Book.holdings book.new)) }
+        ensures bound { taken Q.Quantity.measure (B.Book.holdings book.new) ≤ B.Book.places book.old }
+        ensures places { B.Book.places book.new ≡ B.Book.places book.old }
+        ensures admission { B.Book.admission book.new ≡ B.Book.admission book.old }
+        ensures layer { B.Book.layer_number book.new ≡ B.Book.layer_number book.old }
+    {
+        for quarter in self.span.first..=self.span.last {
+            self.change
+                .apply(book, self.provider, quarter, self.quantity);
+        }
+    }
+}
+
+// Whether a holding takes no place.
+fn is_zero<Q: Quantity>(holding: Q) -> bool
+    ensures { result ≡ is_zero Q.Quantity.measure holding }
+{
+    holding.equals(Q::zero())
+}
+
+// How many places are free after one holding was changed; none where a place is wanting.
+fn after_step(free: u128, was_zero: bool, will_be_zero: bool) -> Option<u128>
+    requires { free < 2 ^ 127 }
+    ensures { result ≡ step_left was_zero will_be_zero free }
+{
+    match (was_zero, will_be_zero) {
+        (true, false) => free.checked_sub(1),
+        (false, true) => Some(free + 1),
+        _ => Some(free),
+    }
+}

@@ -1,0 +1,94 @@
+ghost use Rattle.std.specs.Prelude.{◌≡◌, ◌+◌, ◌≢◌, [], ◌∷◌, IfOk, OnOk};
+ghost use Rattle.std.specs.Result.{result_err};
+ghost use Rattle.book.specs.Grid.{amounts};
+ghost use Rattle.refusals.specs.First.{first_some};
+ghost use Rattle.span_moves.specs.Spans.{Alike, no_provider, no_span, one_provider};
+ghost use Rattle.span_moves.specs.Moves.{moved, move_checks};
+ghost use Rattle.span_moves.specs.Ready.{ReadyToMove};
+
+use crate::change::Change;
+use crate::span::{Provider, Span};
+use crate::span_change::SpanChange;
+use book::interface::Book;
+use quantity::interface::Quantity;
+use refusals::refusal::Refusal;
+
+/// One quantity that passes from the giver to the taker in every quarter of a span.
+#[derive(Drop)]
+pub struct SpanMove<Q> {
+    pub giver: Provider,
+    pub taker: Provider,
+    pub span: Span,
+    pub quantity: Q,
+    ghost apart: { giver.number ≢ taker.number },
+}
+
+impl<Q: Quantity> SpanMove<Q> {
+    pub fn new(
+        giver: u8,
+        taker: u8,
+        first: u8,
+        last: u8,
+        quantity: Q,
+    ) -> Result<SpanMove<Q>, Refusal>
+        ensures refusal { result_err result ≡ first_some (no_provider giver ∷ (no_provider taker ∷ (no_span first last ∷ (one_provider giver taker ∷ [])))) }
+        ensures parts { IfOk result (λ x. (x.giver.number ≡ giver) × (x.taker.number ≡ taker) × (x.span.first ≡ first) × (x.span.last ≡ last) × (x.quantity ≡ quantity)) }
+    {
+        let giver = Provider::try_from(giver)?;
+        let taker = Provider::try_from(taker)?;
+        let span = Span::new(first, last)?;
+        if giver == taker {
+            return Err(Refusal::SameProvider);
+        }
+        Ok(SpanMove {
+            giver,
+            taker,
+            span,
+            quantity,
+        })
+    }
+
+    // The change that this move is for the giver or the taker.
+    fn change(&self, change: Change, provider: Provider) -> SpanChange<Q>
+        ensures { result ≡ record { change = change; provider = provider; span = self.now.span; quantity = self.now.quantity } }
+    {
+        SpanChange {
+            change,
+            provider,
+            span: self.span,
+            quantity: self.quantity,
+        }
+    }
+
+    /// Refuses a move of which the book cannot take every quarter. All lowerings come before all raisings.
+    pub fn check<B: Book<Q = Q>>(&self, book: &B) -> Result<(), Refusal>
+        ensures alike { Alike Q.Quantity.measure (B.Book.holdings book.now) self.now.quantity (λ other q. move_checks Q.Quantity.measure other (B.Book.places book.now) (B.Book.admission book.now) self.now.giver.number self.now.taker.number self.now.span.first self.now.span.last q) (result_err result) }
+        ensures ready { OnOk result (ReadyToMove Q.Quantity.measure (B.Book.holdings book.now) (B.Book.places book.now) (B.Book.admission book.now) self.now.giver.number self.now.taker.number self.now.span.first self.now.span.last self.now.quantity) }
+    {
+        let lowering = self.change(Change::Lowering, self.giver);
+        let raising = self.change(Change::Raising, self.taker);
+        lowering.check_fits(book)?;
+        raising.check_fits(book)?;
+        raising.check_admitted(book)?;
+        let free = book.free() as u128;
+        let lowered = lowering
+            .count_places(book, free)
+            .ok_or(Refusal::NoFreePlace)?;
+        raising
+            .count_places(book, lowered)
+            .ok_or(Refusal::NoFreePlace)?;
+        Ok(())
+    }
+
+    /// Lowers every holding of the giver, then raises every holding of the taker.
+    pub fn apply<B: Book<Q = Q>>(self, book: &mut B)
+        requires { ReadyToMove Q.Quantity.measure (B.Book.holdings book.old) (B.Book.places book.old) (B.Book.admission book.old) self.giver.number self.taker.number self.span.first self.span.last self.quantity }
+        ensures after { amounts Q.Quantity.measure (B.Book.holdings book.new) ≡ moved Q.Quantity.measure (B.Book.holdings book.old) self.giver.number self.taker.number self.quantity self.span.first (self.span.last + 1) }
+        ensures places { B.Book.places book.new ≡ B.Book.places book.old }
+        ensures admission { B.Book.admission book.new ≡ B.Book.admission book.old }
+        ensures layer { B.Book.layer_number book.new ≡ B.Book.layer_number book.old }
+    {
+        self.change(Change::Lowering, self.giver).apply(book);
+        self.change(Change::Raising, self.taker).apply(book);
+    }
+}

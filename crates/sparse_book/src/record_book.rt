@@ -1,0 +1,126 @@
+ghost use Rattle.std.specs.Prelude.{◌≡◌, ℕ, true, length};
+ghost use Rattle.std.specs.Result.{result_err};
+ghost use Rattle.book.specs.Numbers.{answer_number};
+ghost use Rattle.book.specs.Grid.{in_range, amounts};
+ghost use Rattle.book.specs.Calls.{everything, changed, change_refusal, raise_refusal, lower_refusal, raised, lowered};
+ghost use Rattle.sparse_book.specs.Records.{apart, records_held, changed_slots, raised_slots, lowered_slots};
+
+use crate::record::Record;
+use crate::records;
+use book::answers::{BookRefusal, Cause};
+use book::interface::Book;
+use book::range::in_range;
+use quantity::interface::Quantity;
+use record_list::slots::Slots;
+use std::marker::PhantomData;
+
+/// A book over slots for records, lent or owned: it keeps only holdings that are not zero, and has as many places as slots.
+/// A slot without a record is free, and so is one whose record tells zero. Records are looked at from the front and never move.
+#[derive(Drop)]
+pub struct RecordBook<M: Slots<Slot = Option<Record<K::Row>>>, K: Quantity> {
+    pub(crate) slots: M,
+    pub(crate) quantity: PhantomData<K>,
+    ghost apart: { apart (M.slots slots) ≡ true },
+}
+
+impl<M: Slots<Slot = Option<Record<K::Row>>>, K: Quantity> RecordBook<M, K> {
+    // Makes a holding `new`, refuses as told where that is none, or where there is no free slot.
+    fn change(
+        &mut self,
+        provider: u8,
+        quarter: u8,
+        new: Option<K>,
+        refusal: BookRefusal,
+    ) -> Result<(), BookRefusal>
+        requires { in_range provider quarter ≡ true }
+        ensures answer { result_err result ≡ change_refusal K.Quantity.measure (records_held K.Quantity.measure (M.slots self.old.slots)) (length (M.slots self.old.slots)) refusal (everything provider quarter) provider quarter new }
+        ensures slots { M.slots self.new.slots ≡ changed_slots K.Quantity.measure (M.slots self.old.slots) provider quarter (result_err result) new }
+        ensures after { amounts K.Quantity.measure (records_held K.Quantity.measure (M.slots self.new.slots)) ≡ changed K.Quantity.measure (records_held K.Quantity.measure (M.slots self.old.slots)) provider quarter (result_err result) new }
+        ensures places { length (M.slots self.new.slots) ≡ length (M.slots self.old.slots) }
+        ensures lender { M.loan self.new.slots ≡ M.loan self.old.slots }
+    {
+        let quantity = new.ok_or(refusal)?;
+        let told = records::find(self.slots.slots(), provider, quarter);
+        if quantity.equals(K::zero()) {
+            records::release(&mut self.slots, told);
+            return Ok(());
+        }
+        let Some(place) = records::place_of::<K>(self.slots.slots(), told) else {
+            return Err(BookRefusal::NoFreePlace);
+        };
+        let row = quantity.row();
+        records::release(&mut self.slots, told);
+        self.slots.write(
+            place,
+            Some(Record {
+                provider,
+                quarter,
+                row,
+            }),
+        );
+        Ok(())
+    }
+}
+
+impl<M: Slots<Slot = Option<Record<K::Row>>>, K: Quantity> Book for RecordBook<M, K> {
+    type Q = K;
+
+    ghost holdings = { λ s. records_held K.Quantity.measure (M.slots s.slots) };
+
+    ghost places = { λ s. length (M.slots s.slots) };
+
+    ghost admission = { λ _. everything };
+
+    ghost layer_number = { λ _. 0 };
+
+    fn holding(&self, provider: u8, quarter: u8) -> K {
+        records::holding(self.slots.slots(), provider, quarter)
+    }
+
+    fn free(&self) -> usize {
+        records::free::<K>(self.slots.slots())
+    }
+
+    fn admits(&self, provider: u8, quarter: u8, quantity: K) -> Result<(), Cause> {
+        Ok(())
+    }
+
+    fn layer(&self) -> u8 {
+        0
+    }
+
+    // The interface's promises once more, and two of this book's own: which slot is taken or freed, and that the loan stays.
+    #[tactic(auto, using(book::proofs::Changes::raise_outside, book::proofs::Changes::raise_outside_after, book::proofs::Changes::raise_answer, book::proofs::Changes::raise_after, crate::proofs::Calls::raise_outside_slots, crate::proofs::Calls::raise_slots))]
+    fn raise(&mut self, provider: u8, quarter: u8, quantity: K) -> Result<(), BookRefusal>
+        ensures answer { answer_number (result_err result) ≡ answer_number (raise_refusal K.Quantity.measure (records_held K.Quantity.measure (M.slots self.old.slots)) (length (M.slots self.old.slots)) everything provider quarter quantity) }
+        ensures after { amounts K.Quantity.measure (records_held K.Quantity.measure (M.slots self.new.slots)) ≡ raised K.Quantity.measure (records_held K.Quantity.measure (M.slots self.old.slots)) (length (M.slots self.old.slots)) everything provider quarter quantity }
+        ensures places { length (M.slots self.new.slots) ≡ length (M.slots self.old.slots) }
+        ensures admission { everything {Q = K} ≡ everything }
+        ensures layer { ◌≡◌ {A = ℕ} 0 0 }
+        ensures slots { M.slots self.new.slots ≡ raised_slots K.Quantity.measure (M.slots self.old.slots) provider quarter quantity }
+        ensures lender { M.loan self.new.slots ≡ M.loan self.old.slots }
+    {
+        if !in_range(provider, quarter) {
+            return Err(BookRefusal::OutsideRange);
+        }
+        let sum = self.holding(provider, quarter).join(quantity);
+        self.change(provider, quarter, sum, BookRefusal::SumDoesNotFit)
+    }
+
+    #[tactic(auto, using(book::proofs::Changes::lower_outside, book::proofs::Changes::lower_outside_after, book::proofs::Changes::lower_answer, book::proofs::Changes::lower_after, crate::proofs::Calls::lower_outside_slots, crate::proofs::Calls::lower_slots))]
+    fn lower(&mut self, provider: u8, quarter: u8, quantity: K) -> Result<(), BookRefusal>
+        ensures answer { answer_number (result_err result) ≡ answer_number (lower_refusal K.Quantity.measure (records_held K.Quantity.measure (M.slots self.old.slots)) (length (M.slots self.old.slots)) provider quarter quantity) }
+        ensures after { amounts K.Quantity.measure (records_held K.Quantity.measure (M.slots self.new.slots)) ≡ lowered K.Quantity.measure (records_held K.Quantity.measure (M.slots self.old.slots)) (length (M.slots self.old.slots)) provider quarter quantity }
+        ensures places { length (M.slots self.new.slots) ≡ length (M.slots self.old.slots) }
+        ensures admission { everything {Q = K} ≡ everything }
+        ensures layer { ◌≡◌ {A = ℕ} 0 0 }
+        ensures slots { M.slots self.new.slots ≡ lowered_slots K.Quantity.measure (M.slots self.old.slots) provider quarter quantity }
+        ensures lender { M.loan self.new.slots ≡ M.loan self.old.slots }
+    {
+        if !in_range(provider, quarter) {
+            return Err(BookRefusal::OutsideRange);
+        }
+        let left = self.holding(provider, quarter).remainder(quantity);
+        self.change(provider, quarter, left, BookRefusal::NoRemainder)
+    }
+}
