@@ -13,10 +13,7 @@ use std::process::Abort;
 use std::test::*;
 
 fn tenths(n: u16) -> Volume {
-    match Volume::of_tenths(n) {
-        Some(volume) => volume,
-        None => Volume::zero(),
-    }
+    Volume::of_row(n)
 }
 
 // Raises a whole record, fills and frees the others, in any book of sixteen places.
