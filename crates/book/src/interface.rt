@@ -11,6 +11,7 @@ use quantity::interface::Quantity;
 
 /// A book is told by its holdings (of each provider and quarter), the number of its places and what it admits,
 /// and has a layer number. Holdings are compared by the amounts that they stand for.
+// Provider and quarter stay two numbers: a call may have any, and a struct of two unchecked numbers would state no fact.
 pub trait Book {
     type Q: Quantity;
 

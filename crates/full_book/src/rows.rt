@@ -46,6 +46,7 @@ pub fn free<K: Quantity>(rows: &[K::Row]) -> usize
     if rows.len() < 3200 {
         return 0;
     }
+    // A loop: `sum` asks beforehand that the sum fits, which only the promise of each count shows.
     let mut free: usize = 0;
     for provider in 0..32 {
         free += free_of::<K>(rows, provider);

@@ -37,7 +37,7 @@ fn closed_status(gate: Gate, status: Status) -> Status
     }
 }
 
-// How a request stands after its move was made or refused.
+// How a request stands after its move was made or refused. A function: a `From` of a `Result` would say less by its name.
 fn status_of_move(made: Result<(), Refusal>) -> Status
     ensures { result ≡ outcome (result_err made) }
 {
@@ -113,6 +113,7 @@ pub fn pass_gate<O: Book, L: Records<Record = Request<<O::Q as Quantity>::Row>>>
     ensures rest { ChangesHoldings O.Book.places O.Book.admission O.Book.layer_number obligations.old obligations.new }
     ensures room { L.Records.places requests.new ≡ L.Records.places requests.old }
 {
+    // By places: each turn changes the book and the list, so no iterator can lend the requests.
     for place in 0..requests.count() {
         settle_at(obligations, requests, gate, place);
     }

@@ -4,6 +4,8 @@ pub mod calls;
 pub mod laws;
 
 /// The quantity of FCR: one direction, up, of at most 10,000 tenths.
+// Not one array type for both quantities: lent rows are a plain number here and two named ones there, and an array of
+// one or two would trade each law's line of arithmetic for a recursion over lists.
 #[derive(Clone, Copy, PartialEq, Eq, Debug)]
 pub struct Volume {
     tenths: u16,
