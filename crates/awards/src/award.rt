@@ -9,7 +9,7 @@ ghost use Rattle.awards.specs.Sheets.{view};
 ghost use Rattle.awards.specs.Awards.{award_conditions, award_refusal, award_after, award_sheet};
 
 use crate::awarded::Award;
-use crate::blocks::{block_count, block_first, block_last};
+use crate::blocks::Block;
 use crate::prices::{award_earnings, has_large_price};
 use crate::sheet::Sheet;
 use crate::sheet::entering::MOST_AWARDS;
@@ -66,10 +66,18 @@ where
     ensures sheet { view sheet.new ≡ award_sheet O.Q.Quantity.measure (O.Book.holdings obligations.old) (O.Book.places obligations.old) (O.Book.admission obligations.old) O.Q.ReserveQuantity.tenths_in O.Q.ReserveQuantity.directions quarters award.provider award.block award.quantity prices.now (view sheet.old) }
 {
     check_award(sheet, award, prices)?;
-    let first = block_first(quarters, award.block);
-    let last = block_last(quarters, award.block);
-    raise_span(obligations, award.provider, first, last, award.quantity)?;
-    let earned = award_earnings(award.quantity, prices, block_count(quarters, award.block));
+    let block = Block {
+        quarters,
+        number: award.block,
+    };
+    raise_span(
+        obligations,
+        award.provider,
+        block.first(),
+        block.last(),
+        award.quantity,
+    )?;
+    let earned = award_earnings(award.quantity, prices, block.count());
     sheet.enter(award.provider, earned);
     Ok(())
 }

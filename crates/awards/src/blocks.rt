@@ -12,42 +12,51 @@ fn block_start(quarters: u8, block: u8) -> u8
     quarters.saturating_sub(80) + 16 * (block - 1)
 }
 
-/// The first quarter of a block; a block from 6 on is the whole day.
-pub fn block_first(quarters: u8, block: u8) -> u8
-    ensures { result ≡ first_of_block quarters block }
-{
-    if block < 6 {
-        block_start(quarters, block)
-    } else {
-        0
+/// A block of a day of so many quarters. A number from 6 on is the whole day.
+#[derive(Clone, Copy, PartialEq, Eq, Debug)]
+pub struct Block {
+    pub quarters: u8,
+    pub number: u8,
+}
+
+impl Block {
+    /// The first quarter.
+    pub fn first(self) -> u8
+        ensures { result ≡ first_of_block self.quarters self.number }
+    {
+        if self.number < 6 {
+            block_start(self.quarters, self.number)
+        } else {
+            0
+        }
     }
-}
 
-/// The first quarter after a block; a block from 6 on is the whole day.
-pub fn block_end(quarters: u8, block: u8) -> u8
-    ensures { result ≡ end_of_block quarters block }
-{
-    if block < 6 {
-        block_start(quarters, block + 1)
-    } else {
-        quarters
+    /// The first quarter after the block.
+    pub fn end(self) -> u8
+        ensures { result ≡ end_of_block self.quarters self.number }
+    {
+        if self.number < 6 {
+            block_start(self.quarters, self.number + 1)
+        } else {
+            self.quarters
+        }
     }
-}
 
-/// The last quarter of a block.
-pub fn block_last(quarters: u8, block: u8) -> u8
-    ensures value { result ≡ last_of_block quarters block }
-    ensures end { 80 < quarters → result + 1 ≡ end_of_block quarters block }
-{
-    block_end(quarters, block).saturating_sub(1)
-}
+    /// The last quarter.
+    pub fn last(self) -> u8
+        ensures value { result ≡ last_of_block self.quarters self.number }
+        ensures end { 80 < self.quarters → result + 1 ≡ end_of_block self.quarters self.number }
+    {
+        self.end().saturating_sub(1)
+    }
 
-/// How many quarters there are from a block's first to its last.
-pub fn block_count(quarters: u8, block: u8) -> u8
-    ensures value { result ≡ count_of_block quarters block }
-    ensures end { 80 < quarters → first_of_block quarters block + result ≡ end_of_block quarters block }
-{
-    block_last(quarters, block) + 1 - block_first(quarters, block)
+    /// How many quarters there are from the first to the last.
+    pub fn count(self) -> u8
+        ensures value { result ≡ count_of_block self.quarters self.number }
+        ensures end { 80 < self.quarters → first_of_block self.quarters self.number + result ≡ end_of_block self.quarters self.number }
+    {
+        self.last() + 1 - self.first()
+    }
 }
 
 /// The block of a quarter, one of the six for a quarter of the day: the one between whose first quarter and end it is.
