@@ -1,20 +1,14 @@
 -- Days by their handles: one that is changed, and one that is added.
-use Rattle.std.proofs.Common.{◌≡◌, ℕ, ◌<◌, ◌≤◌, Bool, true, List, [], ◌∷◌, ◌++◌, map, length, get_or, set, arith}
+use Rattle.std.proofs.Common.{◌≡◌, ℕ, ◌<◌, ◌≤◌, List, [], ◌∷◌, ◌++◌, map, length, get_or, set, arith}
 use mathlib.Core.Path.{fun_ext}
 use lib.ListN.{length-map}
 use Rattle.std.proofs.lemmas.List.{map-set, map-append}
 use Rattle.std.proofs.lemmas.Bool.Decides.{nat_tests}
 use Rattle.std.proofs.lemmas.Grind.{common_steps}
 use Rattle.quantity.specs.Measure.{Measure}
-use Rattle.day_calls.specs.declared.calls.DayCall.{DayCall}
-use Rattle.day_calls.specs.Answers.{Outcome}
 use Rattle.laws.specs.Laws.{put_day}
 use Rattle.day_calls.specs.Days.{DayState}
-use Rattle.bureau.specs.Bureaus.{absent_day, BureauState, OnDay, Called}
-
--- a call of a day that there is
-pub called : {Q R : Type 0} {m : Measure Q R} {tenths : Q → ℕ → ℕ} {directions : ℕ} {before after : BureauState Q R} {day : ℕ} {call : DayCall Q} {answer : Outcome Q} (b : Bool) → b ≡ true → OnDay m tenths directions before day call answer after → Called m tenths directions b before day call answer after
-called b e p = rw e p
+use Rattle.bureau.specs.Bureaus.{absent_day}
 
 module _ {D S : Type 0} (f : D → S) (none : S) (ds : List D) where
   -- the day at a handle that there is
