@@ -1,27 +1,19 @@
 -- Days by their handles: one that is changed, and one that is added.
-use Rattle.std.proofs.Common.{◌≡◌, ℕ, ◌<◌, ◌≤◌, Bool, true, false, List, [], ◌∷◌, ◌++◌, map, length, get_or, set, sym, ap, ◌∙◌, arith}
+use Rattle.std.proofs.Common.{◌≡◌, ℕ, ◌<◌, ◌≤◌, List, [], ◌∷◌, ◌++◌, map, length, get_or, set, arith}
 use mathlib.Core.Path.{fun_ext}
 use lib.ListN.{length-map}
-use Rattle.std.proofs.lemmas.List.{map-set, map-append, get_or_past, get_or-map}
-use Rattle.std.proofs.lemmas.Bool.{true≢false}
+use Rattle.std.proofs.lemmas.List.{map-set, map-append}
 use Rattle.std.proofs.lemmas.Bool.Decides.{nat_tests}
 use Rattle.std.proofs.lemmas.Grind.{common_steps}
 use Rattle.quantity.specs.Measure.{Measure}
-use Rattle.day_calls.specs.declared.calls.DayCall.{DayCall}
-use Rattle.day_calls.specs.Answers.{Outcome}
 use Rattle.laws.specs.Laws.{put_day}
 use Rattle.day_calls.specs.Days.{DayState}
-use Rattle.bureau.specs.Bureaus.{absent_day, BureauState, OnDay, Called}
-
--- a call of a day that there is
-pub called : {Q R : Type 0} {m : Measure Q R} {tenths : Q → ℕ → ℕ} {directions : ℕ} {before after : BureauState Q R} {day : ℕ} {call : DayCall Q} {answer : Outcome Q} (b : Bool) → b ≡ true → OnDay m tenths directions before day call answer after → Called m tenths directions b before day call answer after
-called true e p = p
-called false e p = absurd (true≢false (sym e))
+use Rattle.bureau.specs.Bureaus.{absent_day}
 
 module _ {D S : Type 0} (f : D → S) (none : S) (ds : List D) where
   -- the day at a handle that there is
   pub day_at : (d : ℕ) (x : D) → d < length ds → x ≡ get_or ds d x → get_or (map f ds) d none ≡ f x
-  day_at d x h e = get_or-map f ds d x none h ∙ ap f (sym e)
+  day_at d x h e = grind (arith, common_steps)
 
   -- one desk is changed
   pub day_changed : (d : ℕ) (w : D) → d < length ds → (λ k. get_or (map f (set ds d w)) k none) ≡ put_day (λ k. get_or (map f ds) k none) d (f w)
@@ -35,4 +27,4 @@ module _ {D S : Type 0} (f : D → S) (none : S) (ds : List D) where
 
 -- no day past the last handle
 pub none_past : {D Q R : Type 0} (m : Measure Q R) (f : D → DayState Q R) (ds : List D) (k : ℕ) → length ds ≤ k → get_or (map f ds) k (absent_day m) ≡ absent_day m
-none_past m f ds k h = get_or_past (map f ds) k (absent_day m) (omega (arith, length-map ds f))
+none_past m f ds k h = let l = length-map ds f in grind (arith, common_steps)

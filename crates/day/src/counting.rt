@@ -31,7 +31,7 @@ fn count_quarters<B: Book>(book: &B, provider: u8) -> usize
 pub fn count_holdings<B: Book>(book: &B) -> usize
     ensures { result ≡ taken B.Q.Quantity.measure (B.Book.holdings book.now) }
 {
-    // A loop: `sum` asks beforehand that the sum fits, which only the promise of each count shows.
+    // A `for`, since the check finds no bound for the sum of what a chain counts.
     let mut count = 0;
     for provider in 0..32u8 {
         count += count_quarters(book, provider);

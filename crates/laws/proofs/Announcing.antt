@@ -54,22 +54,17 @@ no_place : {E : Type 0} (b : Bool) (xs ys : List E) (r : Refusal) → cond b Non
 no_place b xs ys r e = grind (arith, nat_tests)
 
 list_stays : {E : Type 0} (joining : Joining) (xs : List E) (room : ℕ) (change : E → E) (y : E) (o : Option ℕ) (r : Refusal) → refusal_of joining xs room o ≡ Some r → list_of joining xs room change y o ≡ xs
-list_stays joining xs room change y (Some k) r e = absurd (none_some r e)
-list_stays Unresolved xs room change y None r e = no_place (has_place xs room) xs (xs ++ (y ∷ [])) r e
-list_stays NotBalanced xs room change y None r e = refl
+list_stays joining xs room change y o r e = grind (arith, nat_tests, common_steps)
 
 module _ {Q R : Type 0} (m : Measure Q R) where
   balance_if : (b : Bool) → is_confirmed (cond b BalanceOk BalanceError) ≡ false
   balance_if b = grind (arith, nat_tests)
 
   balance_open : (giving taking : Option R) → is_confirmed (balance m giving taking) ≡ false
-  balance_open None taking = refl
-  balance_open (Some given) None = refl
-  balance_open (Some given) (Some taken) = balance_if (m.alike (m.told given) (m.told taken))
+  balance_open giving taking = grind (arith, nat_tests, common_steps)
 
   spoken_open : (side : Side) (row : R) (r : Request R) → is_confirmed (spoken m side row r).status ≡ false
-  spoken_open Giver row r = balance_open (Some row) r.taking
-  spoken_open Taker row r = balance_open r.giving (Some row)
+  spoken_open side row r = grind (arith, common_steps, balance_open)
 
   -- where both sides agree, the giver announced the amount that was announced last
   agreed_if : (b : Bool) → agreed (cond b BalanceOk BalanceError) ≡ true → b ≡ true
@@ -121,7 +116,7 @@ module _ {Q R : Type 0} (m : Measure Q R) where
 
       pub joined_volume : (awards : ℕ → ℕ → m.Amount) (grid : Grid m.Amount) → Volume m awards words grid xs → Volume m awards new grid (set xs place y)
       unfolding counted
-      joined_volume awards grid v p t hp ht = ap (m.plus (grid p t)) (same_joined (from_giver m p t)) ∙ (v p t hp ht ∙ ap (m.plus (awards p t)) (sym (same_joined (to_taker m p t))))
+      joined_volume awards grid v p t hp ht = cc (same_joined (from_giver m p t), v p t hp ht, same_joined (to_taker m p t))
 
       pub joined_founded : Matches m a y → AllFounded m words xs → AllFounded m new (set xs place y)
       joined_founded = heard_founded xs (set xs place y) y (nth_set_here xs place old y there) (λ j. nth_set_else xs place j y)
@@ -133,7 +128,7 @@ module _ {Q R : Type 0} (m : Measure Q R) where
 
       pub added_volume : (awards : ℕ → ℕ → m.Amount) (grid : Grid m.Amount) → Volume m awards words grid xs → Volume m awards new grid (xs ++ (y ∷ []))
       unfolding counted
-      added_volume awards grid v p t hp ht = ap (m.plus (grid p t)) (same_added (from_giver m p t)) ∙ (v p t hp ht ∙ ap (m.plus (awards p t)) (sym (same_added (to_taker m p t))))
+      added_volume awards grid v p t hp ht = cc (same_added (from_giver m p t), v p t hp ht, same_added (to_taker m p t))
 
       pub added_founded : Matches m a y → AllFounded m words xs → AllFounded m new (xs ++ (y ∷ []))
       added_founded = heard_founded xs (xs ++ (y ∷ [])) y (ap (slice_get (xs ++ (y ∷ []))) next ∙ nth_more_here xs y) (λ j n. nth_more_else xs j y (λ e. n (e ∙ sym next)))

@@ -1,5 +1,5 @@
 -- What the numbers of an answer tell: whether an award was taken, and at which place an announcement was.
-use Rattle.std.proofs.Common.{◌≡◌, ℕ, Bool, false, ◌&&◌, eqb, List, get_or, Some, None, Option, ap, ◌∙◌, arith}
+use Rattle.std.proofs.Common.{◌≡◌, ℕ, Bool, false, ◌&&◌, eqb, List, get_or, Option, ap, ◌∙◌, arith}
 use Rattle.std.proofs.lemmas.Bool.Decides.{nat_tests}
 use Rattle.std.proofs.lemmas.Grind.{common_steps}
 use Rattle.refusals.specs.declared.refusal.Refusal.{Refusal}
@@ -18,10 +18,10 @@ not_taken : (r : Refusal) → eqb (number r) 0 ≡ false
 not_taken r = grind (arith, nat_tests)
 
 refused_award : (r : Refusal) → tells_awarded (refusal_number r) ≡ false
-refused_award r = ap (λ b. b && eqb (get_or (refusal_number r) 1 0) 2) (not_taken r)
+refused_award r = grind (arith, nat_tests, not_taken)
 
 refused_place : (k : ℕ) (r : Refusal) → tells_placed k (refusal_number r) ≡ false
-refused_place k r = ap (λ b. b && (eqb (get_or (refusal_number r) 1 0) 3 && eqb (get_or (refusal_number r) 2 0) k)) (not_taken r)
+refused_place k r = grind (arith, nat_tests, not_taken)
 
 module _ {Q : Type 0} where
   awarded_told : (r : Outcome Q) → is_awarded r ≡ tells_awarded (said r).numbers
@@ -39,9 +39,7 @@ module _ {Q : Type 0} where
 
   -- a call that is refused, or whose answer tells no award, takes no award; and so for a place
   pub unless_award : (o : Option Refusal) (s : Said Q) → tells_awarded s.numbers ≡ false → tells_awarded (unless o s).numbers ≡ false
-  unless_award None s t = t
-  unless_award (Some r) s t = refused_award r
+  unless_award o s t = grind (arith, nat_tests, refused_award)
 
   pub unless_place : (k : ℕ) (o : Option Refusal) (s : Said Q) → tells_placed k s.numbers ≡ false → tells_placed k (unless o s).numbers ≡ false
-  unless_place k None s t = t
-  unless_place k (Some r) s t = refused_place k r
+  unless_place k o s t = grind (arith, nat_tests, refused_place)

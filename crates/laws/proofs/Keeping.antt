@@ -1,7 +1,8 @@
 -- Each call of a day keeps what stands of it.
-use Rattle.std.proofs.Common.{◌≡◌, ℕ, ◌+◌, true, false, cond, eqb, List, [], ◌∷◌, ℤ, Some, None, Option, Bor, sym, refl, ap, ◌∙◌, subst}
+use Rattle.std.proofs.Common.{◌≡◌, ℕ, ◌+◌, true, false, cond, eqb, List, [], ◌∷◌, ℤ, Some, None, Option, Bor, sym, refl, ap, ◌∙◌, subst, arith}
 use mathlib.Core.Path.{fun_ext}
 use Rattle.std.specs.List.{slice_get}
+use Rattle.std.proofs.lemmas.Grind.{common_steps}
 use Rattle.quantity.specs.Measure.{Measure}
 use Rattle.book.specs.Grid.{Grid, amounts}
 use Rattle.book.specs.Calls.{held_at}
@@ -46,16 +47,13 @@ module _ {Q R : Type 0} (m : Measure Q R) (tenths : Q → ℕ → ℕ) (directio
 
   module _ (h : List (Event Q)) (grid : Grid m.Amount) (rs : List (Request R)) (sheet : SheetView) where
     runs_same : (gate : Gate) (day : Day) → Runs h day.quarters grid rs sheet → StandsAt m tenths directions h (same_stage gate day) grid rs sheet
-    runs_same First day x = record { volume = x.volume; earnings = x.earnings; founded = x.founded; length = x.length; quiet = tt }
-    runs_same Second day x = record { volume = x.volume; earnings = x.earnings; founded = x.founded; length = x.length; quiet = tt }
+    runs_same gate day x = grind (arith, common_steps)
 
     runs_next : (gate : Gate) (day : Day) → Runs h day.quarters grid rs sheet → StandsAt m tenths directions h (next_stage gate day) grid rs sheet
-    runs_next First day x = record { volume = x.volume; earnings = x.earnings; founded = x.founded; length = x.length; quiet = tt }
-    runs_next Second day x = record { volume = x.volume; earnings = x.earnings; founded = x.founded; length = x.length; quiet = tt }
+    runs_next gate day x = grind (arith, common_steps)
 
     same_runs : (gate : Gate) (day : Day) → StandsAt m tenths directions h (same_stage gate day) grid rs sheet → Runs h day.quarters grid rs sheet
-    same_runs First day x = record { volume = x.volume; earnings = x.earnings; founded = x.founded; length = x.length }
-    same_runs Second day x = record { volume = x.volume; earnings = x.earnings; founded = x.founded; length = x.length }
+    same_runs gate day x = grind (arith, common_steps)
 
   module _ (s : DayState Q R) (h : List (Event Q)) (answer : Outcome Q) where
     abbrev grid : Grid m.Amount

@@ -63,6 +63,5 @@ module _ {Q R : Type 0} (m : Measure Q R) where
     pub open_volume : (awards : ℕ → ℕ → m.Amount) (words : Words Q) → ((p t : ℕ) → awards p t ≡ m.none) → Volume m awards words (amounts m held) rs
     open_volume awards words quiet p t hp ht =
         let a = and_parts (eqb (taken m held) 0) (eqb (taken m bids) 0 && eqb (length rs) 0) parts.1 in
-        let zero_held = nothing_there held (eqb-true (taken m held) 0 a.0) p t hp ht in
-        let none_passed = nothing_passed words rs p t no_requests in
-        ap (λ x. m.plus x (passed_out m words rs p t)) (zero_held ∙ sym (quiet p t)) ∙ ap (m.plus (awards p t)) (none_passed.0 ∙ sym none_passed.1)
+        let passed = nothing_passed words rs p t no_requests in
+        cc (nothing_there held (eqb-true (taken m held) 0 a.0) p t hp ht, passed.0, passed.1, quiet p t)

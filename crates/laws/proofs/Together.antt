@@ -1,5 +1,5 @@
 -- What passed from all providers together is what passed to them, so all holdings are all awards.
-use Rattle.std.proofs.Common.{◌≡◌, ℕ, suc, ◌+◌, ◌<◌, Bool, true, false, cond, ◌&&◌, ltb, leb, List, [], ◌∷◌, Some, None, Option, sym, refl, ◌∙◌, arith}
+use Rattle.std.proofs.Common.{◌≡◌, ℕ, suc, ◌+◌, ◌<◌, Bool, true, false, cond, ◌&&◌, ltb, leb, List, [], ◌∷◌, Some, None, Option, refl, arith}
 use Rattle.std.specs.List.{slice_get}
 use Rattle.quantity.specs.Measure.{Measure}
 use Rattle.book.specs.Grid.{Grid, amounts}
@@ -32,7 +32,7 @@ module _ {Q R : Type 0} (m : Measure Q R) where
   word_even t None r f = absurd f
   word_even t (Some a) r f =
       let b = leb a.passage.first t && ltb t (a.passage.last + 1) in
-      below_one m a.passage.giver b (m.amount a.quantity) 32 f.giver_there ∙ sym (below_one m a.passage.taker b (m.amount a.quantity) 32 f.taker_there)
+      cc (below_one m a.passage.giver b (m.amount a.quantity) 32 f.giver_there, below_one m a.passage.taker b (m.amount a.quantity) 32 f.taker_there)
 
   all_even : (words : Words Q) (t k : ℕ) (rs : List (Request R)) → ((j i : ℕ) → j ≡ k + i → Founded m (words j) (slice_get rs i)) → sum_below m (λ p. sum_from m (out_at m words p t) k rs) 32 ≡ sum_below m (λ p. sum_from m (in_at m words p t) k rs) 32
   unfolding sum_from
