@@ -31,28 +31,23 @@ pub fn gate_step<O: Book, L: Records<Record = Request<<O::Q as Quantity>::Row>>>
 {
     match std::mem::replace(stage, Stage::Unopened) {
         Stage::Announcing(first) => match first.pass_gate(obligations, requests, minute) {
-            Ok(next) => {
-                *stage = Stage::Reconciling(next);
-                Ok(Answer::GatePassed)
-            }
+            Ok(next) => *stage = Stage::Reconciling(next),
             Err((back, refusal)) => {
                 *stage = Stage::Announcing(back);
-                Err(refusal.into())
+                return Err(refusal.into());
             }
         },
         Stage::Reconciling(second) => match second.pass_gate(obligations, requests, minute) {
-            Ok(next) => {
-                *stage = Stage::Intraday(next);
-                Ok(Answer::GatePassed)
-            }
+            Ok(next) => *stage = Stage::Intraday(next),
             Err((back, refusal)) => {
                 *stage = Stage::Reconciling(back);
-                Err(refusal.into())
+                return Err(refusal.into());
             }
         },
         other => {
             *stage = other;
-            Err(NotCalled::NotInThisStage.into())
+            return Err(NotCalled::NotInThisStage.into());
         }
     }
+    Ok(Answer::GatePassed)
 }

@@ -24,44 +24,34 @@ where
     ensures performed { Performed O.Q.Quantity.measure O.Q.ReserveQuantity.tenths_in O.Q.ReserveQuantity.directions (state_of O.Book.holdings O.Book.places O.Book.admission B.Book.holdings L.Records.contents L.Records.places desk.old) call.now result (state_of O.Book.holdings O.Book.places O.Book.admission B.Book.holdings L.Records.contents L.Records.places desk.new) }
     ensures law { KeepsLaw O.Q.Quantity.measure O.Q.ReserveQuantity.tenths_in O.Q.ReserveQuantity.directions (state_of O.Book.holdings O.Book.places O.Book.admission B.Book.holdings L.Records.contents L.Records.places desk.old) call.now result (state_of O.Book.holdings O.Book.places O.Book.admission B.Book.holdings L.Records.contents L.Records.places desk.new) }
 {
+    let Desk {
+        stage,
+        obligations,
+        bids,
+        requests,
+        sheet,
+    } = desk;
     match call {
-        DayCall::Open { number, quarters } => open_step(
-            &mut desk.stage,
-            &desk.obligations,
-            &desk.bids,
-            &desk.requests,
-            &mut desk.sheet,
-            *number,
-            *quarters,
-        ),
-        DayCall::Award { award, prices } => award_step(
-            &desk.stage,
-            &mut desk.obligations,
-            &mut desk.sheet,
-            *award,
-            prices,
-        ),
-        DayCall::Announce(said) => announce_step(&mut desk.stage, &mut desk.requests, *said),
-        DayCall::Gate { minute } => gate_step(
-            &mut desk.stage,
-            &mut desk.obligations,
-            &mut desk.requests,
-            *minute,
-        ),
-        DayCall::Holding { provider, quarter } => holding_step(
-            &desk.stage,
-            &desk.obligations,
-            *provider,
-            *quarter,
-        ),
-        DayCall::Missing { provider, quarter } => missing_step(
-            &desk.stage,
-            &desk.obligations,
-            &desk.bids,
-            &desk.sheet,
-            *provider,
-            *quarter,
-        ),
-        DayCall::Status { place } => status_step(&desk.stage, &desk.requests, *place),
+        DayCall::Open { number, quarters } => {
+            open_step(
+                stage,
+                obligations,
+                bids,
+                requests,
+                sheet,
+                *number,
+                *quarters,
+            )
+        }
+        DayCall::Award { award, prices } => award_step(stage, obligations, sheet, *award, prices),
+        DayCall::Announce(said) => announce_step(stage, requests, *said),
+        DayCall::Gate { minute } => gate_step(stage, obligations, requests, *minute),
+        DayCall::Holding { provider, quarter } => {
+            holding_step(stage, obligations, *provider, *quarter)
+        }
+        DayCall::Missing { provider, quarter } => {
+            missing_step(stage, obligations, bids, sheet, *provider, *quarter)
+        }
+        DayCall::Status { place } => status_step(stage, requests, *place),
     }
 }

@@ -33,5 +33,5 @@ pub returns-in-Gate : goal.returns-in-Gate
 unfolding answered stage_after held_after requests_after sheet_after
 returns-in-Gate g c =
     let fits : SFits w32 c.in-Gate.minute = search rules in
-    let told = rw (to_z-of_z w32 c.in-Gate.minute fits) at c.gate_step.ensures in
+    let told = simp (to_z-of_z w32 c.in-Gate.minute fits) at c.gate_step.ensures in
     lawful (search rules)
