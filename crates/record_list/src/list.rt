@@ -1,5 +1,5 @@
 use crate::interface::Records;
-use crate::slots::fill;
+use crate::slots::{Slots, fill};
 
 /// A list in lent memory: its contents are the first `used` slots, or all where there are fewer.
 // The slice with `used` beside it stays: the memory is lent by callers who have no heap, and is handed back to them.
@@ -108,5 +108,26 @@ impl<'a, E: Copy> Records for RecordList<'a, E> {
         self.slots[place] = item;
         self.used = place + 1;
         Some(place)
+    }
+}
+
+impl<'a, E: Copy> Slots for RecordList<'a, E> {
+    ghost use Rattle.std.specs.Prelude.{Some};
+
+    type Slot = E;
+
+    ghost slots = { λ l. l.slots.now };
+
+    ghost loan = { λ l. Some l.slots.ghost_name };
+
+    /// Every slot, used or not.
+    fn slots(&self) -> &[E] {
+        &self.slots[..]
+    }
+
+    fn write(&mut self, place: usize, slot: E) {
+        if place < self.slots.len() {
+            self.slots[place] = slot;
+        }
     }
 }

@@ -8,20 +8,19 @@ use quantity::interface::Quantity;
 use record_list::list::RecordList;
 use std::marker::PhantomData;
 
-/// A sparse book over lent slots.
-pub type SparseBook<'a, K> = RecordBook<&'a mut [Option<Record<<K as Quantity>::Row>>], K>;
+/// A sparse book over a list of records in lent memory.
+pub type SparseBook<'a, K> = RecordBook<RecordList<'a, Option<Record<<K as Quantity>::Row>>>, K>;
 
 impl<'a, K: Quantity> SparseBook<'a, K> {
     /// A book with every holding zero, whatever the records told: each slot is free.
     pub fn blank(slots: &'a mut [Option<Record<K::Row>>]) -> SparseBook<'a, K>
-        ensures slots { result.slots.now ≡ map (λ _. None) slots.old }
-        ensures empty { amounts K.Quantity.measure (records_held K.Quantity.measure result.slots.now) ≡ (λ _ _. K.Quantity.measure.none) }
-        ensures places { length result.slots.now ≡ length slots.old }
-        ensures lender { result.slots.ghost_name ≡ slots.entry.ghost_name }
+        ensures slots { result.slots.slots.now ≡ map (λ _. None) slots.old }
+        ensures empty { amounts K.Quantity.measure (records_held K.Quantity.measure result.slots.slots.now) ≡ (λ _ _. K.Quantity.measure.none) }
+        ensures places { length result.slots.slots.now ≡ length slots.old }
+        ensures lender { result.slots.slots.ghost_name ≡ slots.entry.ghost_name }
     {
-        let slots = RecordList::filled(slots, None).into_slots();
         RecordBook {
-            slots,
+            slots: RecordList::filled(slots, None),
             quantity: PhantomData,
         }
     }
