@@ -58,6 +58,7 @@ impl<S: BeforeGate> InStage<S> {
         ensures room { L.Records.places requests.new ≡ L.Records.places requests.old }
     {
         let later = Day { minute, ..self.day };
+        // No `?`: the stage goes back with the refusal.
         if let Err(refusal) = check_gate(self.day, later, S::gate()) {
             return Err((self, refusal));
         }

@@ -32,6 +32,7 @@ impl<'a, E: Copy> Slots for &'a mut [E] {
     }
 
     fn write(&mut self, place: usize, slot: E) {
+        // By an index: through `get_mut` of a lent slice the proof did not close.
         if place < self.len() {
             self[place] = slot;
         }

@@ -46,6 +46,7 @@ impl<M: Slots<Slot = Option<Record<K::Row>>>, K: Quantity> RecordBook<M, K> {
             records::release(&mut self.slots, told);
             return Ok(());
         }
+        // No `?`: after `ok_or(..)?` the proof of this refusal did not close.
         let Some(place) = records::place_of::<K>(self.slots.slots(), told) else {
             return Err(BookRefusal::NoFreePlace);
         };
