@@ -3,27 +3,26 @@ use quantity::fcr::Volume;
 use quantity::interface::Quantity;
 use quantity::reserve::ReserveQuantity;
 
-// A volume from its tenths.
-fn volume(tenths: u16) -> Volume {
-    Volume::of_row(tenths)
+// The tenths of a sum, if it fits.
+fn sum(a: u16, b: u16) -> Option<u16> {
+    let sum = Volume::of_tenths(a)?.join(Volume::of_tenths(b)?)?;
+    Some(sum.up())
+}
+
+// The tenths of a remainder, if there is one.
+fn remainder(a: u16, b: u16) -> Option<u16> {
+    let left = Volume::of_tenths(a)?.remainder(Volume::of_tenths(b)?)?;
+    Some(left.up())
 }
 
 #[test]
 fn sum_up_to_the_bound(rt: HostRuntime) {
-    let sums = [
-        volume(4000).join(volume(6000)),
-        volume(4000).join(volume(6001)),
-    ];
-    assert_eq!(rt; sums, [Some(volume(10_000)), None]);
+    assert_eq!(rt; [sum(4000, 6000), sum(4000, 6001)], [Some(10_000), None]);
 }
 
 #[test]
 fn remainder_down_to_zero(rt: HostRuntime) {
-    let left = [
-        volume(50).remainder(volume(50)),
-        volume(50).remainder(volume(51)),
-    ];
-    assert_eq!(rt; left, [Some(volume(0)), None]);
+    assert_eq!(rt; [remainder(50, 50), remainder(50, 51)], [Some(0), None]);
 }
 
 #[test]

@@ -138,15 +138,16 @@ impl<'a, R: Print + AllocGlobal> Session<'a, R> {
     }
 
     // Makes the chosen book and runs the lines from a place on over it.
-    fn run_books<K: Written>(&mut self, from: usize) -> io::Result<()> {
+    fn run_books<K: Written>(&mut self, from: usize) -> anyhow::Result<()> {
         let heap = self.rt.alloc();
         match self.choice.bottom {
-            Bottom::Full => self.run_over(from, StoredFullBook::<K>::new(heap)?),
+            Bottom::Full => self.run_over(from, StoredFullBook::<K>::new(heap)?)?,
             Bottom::Sparse(places) => {
                 let book = StoredSparseBook::<K>::new(heap, usize::from(places))?;
-                self.run_over(from, book)
+                self.run_over(from, book)?;
             }
         }
+        Ok(())
     }
 }
 
