@@ -33,7 +33,7 @@ fn check_award<Q: ReserveQuantity>(
     if award.block > 6 {
         return Err(Refusal::NoSuchSpan);
     }
-    if award.quantity.equals(Q::zero()) {
+    if award.quantity.is_zero() {
         return Err(Refusal::ZeroQuantity);
     }
     if prices.len() != Q::direction_count() as usize {

@@ -1,5 +1,5 @@
 /// What is awarded: a quantity to a provider in every quarter of a block.
-// The prices come beside it: a struct that holds a lent slice gets no generated proof in its callers.
+// The prices come beside it: with the lent slice in the struct, and that passed by value, the check covered no caller.
 #[derive(Clone, Copy)]
 pub struct Award<Q> {
     pub provider: u8,

@@ -17,7 +17,7 @@ use std::io::Read;
 use std::{fmt, io};
 
 /// How many calls were taken and refused, and how many lines were not understood.
-#[derive(Clone, Copy, PartialEq, Eq, Debug)]
+#[derive(Clone, Copy, PartialEq, Eq, Debug, Default)]
 pub struct Tally {
     pub taken: u64,
     pub refused: u64,
@@ -157,11 +157,7 @@ pub fn run_script(rt: &(impl Print + AllocGlobal), text: &str) -> anyhow::Result
         rt,
         text,
         choice: Choice::new(),
-        tally: Tally {
-            taken: 0,
-            refused: 0,
-            not_understood: 0,
-        },
+        tally: Tally::default(),
     };
     match session.settle()? {
         Some((from, Service::Fcr)) => session.run_books::<Volume>(from)?,

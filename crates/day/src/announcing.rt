@@ -54,7 +54,7 @@ fn check_outline<Q: Quantity>(
     if passage.giver == passage.taker {
         return Err(Refusal::SameProvider);
     }
-    if said.quantity.equals(Q::zero()) {
+    if said.quantity.is_zero() {
         return Err(Refusal::ZeroQuantity);
     }
     if said.minute < day.minute {

@@ -11,9 +11,7 @@ fn is_held<B: Book>(book: &B, provider: u8, quarter: u8) -> bool
     requires { (provider < 32) × (quarter < 100) }
     ensures { result ≡ not (is_zero B.Q.Quantity.measure (B.Book.holdings book.now provider quarter)) }
 {
-    !book
-        .holding(provider, quarter)
-        .equals(<B::Q as Quantity>::zero())
+    !book.holding(provider, quarter).is_zero()
 }
 
 // How many holdings of a provider are not zero.

@@ -93,8 +93,6 @@ pub fn request_status<R: Copy, L: Records<Record = Request<R>>>(
     ensures answer { result_err result ≡ status_refusal (slice_get (L.Records.contents requests.now) place) }
     ensures value { IfOk result (λ s. s ≡ status_of (slice_get (L.Records.contents requests.now) place)) }
 {
-    match requests.at(place) {
-        Some(request) => Ok(request.status),
-        None => Err(Refusal::NoSuchSpan),
-    }
+    let request = requests.at(place).ok_or(Refusal::NoSuchSpan)?;
+    Ok(request.status)
 }

@@ -45,7 +45,7 @@ impl<M: Slots<Slot = K::Row>, K: Quantity> RowBook<M, K> {
                 .write(provider as usize * 100 + quarter as usize, quantity.row());
             return Ok(());
         }
-        if quantity.equals(K::zero()) {
+        if quantity.is_zero() {
             Ok(())
         } else {
             Err(BookRefusal::NoFreePlace)

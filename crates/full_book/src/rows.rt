@@ -26,7 +26,7 @@ pub fn holding<K: Quantity>(rows: &[K::Row], provider: u8, quarter: u8) -> K
 fn is_free<K: Quantity>(rows: &[K::Row], provider: u8, quarter: u8) -> bool
     ensures { result ≡ is_zero K.Quantity.measure (held_at K.Quantity.measure (rows_held K.Quantity.measure rows.now) provider quarter) }
 {
-    holding::<K>(rows, provider, quarter).equals(K::zero())
+    holding::<K>(rows, provider, quarter).is_zero()
 }
 
 // How many of a provider's 100 holdings are zero.

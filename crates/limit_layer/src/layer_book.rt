@@ -83,9 +83,8 @@ where
         if !in_range(provider, quarter) {
             return Err(BookRefusal::OutsideRange);
         }
-        let Some(sum) = self.below.holding(provider, quarter).join(quantity) else {
-            return Err(BookRefusal::SumDoesNotFit);
-        };
+        let held = self.below.holding(provider, quarter);
+        let sum = held.join(quantity).ok_or(BookRefusal::SumDoesNotFit)?;
         self.admits(provider, quarter, sum)?;
         self.below.raise(provider, quarter, quantity)
     }

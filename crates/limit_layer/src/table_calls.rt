@@ -50,9 +50,8 @@ impl LimitTable {
     pub fn limit(&self, provider: u8, direction: Direction) -> u32
         ensures { result ≡ limit_at self.now provider (number direction) }
     {
-        match self.limits.get(usize::from(provider)) {
-            Some(limits) => limits.in_direction(direction),
-            None => 0,
-        }
+        self.limits
+            .get(usize::from(provider))
+            .map_or(0, |limits| limits.in_direction(direction))
     }
 }

@@ -1,5 +1,5 @@
 ghost use Rattle.std.specs.Prelude.{◌≡◌};
-ghost use Rattle.quantity.specs.Measure.{Measure};
+ghost use Rattle.quantity.specs.Measure.{Measure, is_zero};
 
 /// A quantity stands for an element of a set with a sum and a zero (`measure`).
 /// Only some elements fit; two values may stand for the same element.
@@ -23,6 +23,13 @@ pub trait Quantity: Copy {
     /// Whether both stand for the same element.
     fn equals(self, other: Self) -> bool
         ensures { result ≡ measure.alike self other };
+
+    /// Whether this stands for zero.
+    fn is_zero(self) -> bool
+        ensures { result ≡ is_zero measure self }
+    {
+        self.equals(Self::zero())
+    }
 
     fn row(self) -> Self::Row
         ensures { result ≡ measure.row self };

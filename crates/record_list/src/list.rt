@@ -122,12 +122,10 @@ impl<'a, E: Copy> Slots for RecordList<'a, E> {
 
     /// Every slot, used or not.
     fn slots(&self) -> &[E] {
-        &self.slots[..]
+        self.slots.slots()
     }
 
     fn write(&mut self, place: usize, slot: E) {
-        if place < self.slots.len() {
-            self.slots[place] = slot;
-        }
+        self.slots.write(place, slot);
     }
 }

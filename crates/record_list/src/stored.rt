@@ -20,6 +20,7 @@ impl<E: Copy> StoredList<E> {
     }
 }
 
+// Its calls are a `Vec`'s, those of the list over lent slots are a slice's with a count: one body for both would need a third trait.
 impl<E: Copy> Records for StoredList<E> {
     type Record = E;
 

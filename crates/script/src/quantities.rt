@@ -7,7 +7,7 @@ use std::fmt;
 
 /// A quantity as a script writes it, and as it is printed.
 pub trait Written: ReserveQuantity + fmt::Display {
-    // No `FromStr`: the error is this crate's, the quantities are another's.
+    // No `FromStr`: that is for the crate of the quantities, which would need the words of every fault of a line there.
     fn read(word: &str) -> Result<Self, Malformed>;
 }
 

@@ -11,7 +11,8 @@ use book::interface::Book;
 use quantity::interface::Quantity;
 use refusals::refusal::Refusal;
 
-/// What is done to each holding of a span. An enum, since the definitions of specs/ speak of both by it.
+/// What is done to each holding of a span.
+// An enum, and not two types under a trait: four short matches stand below, where two impls would say each contract again.
 #[derive(Clone, Copy, PartialEq, Eq, Debug)]
 pub enum Change {
     Lowering,

@@ -1,6 +1,5 @@
 ghost use Rattle.std.specs.Prelude.{◌≡◌, ◌+◌, ◌-◌, ◌^◌, ◌<◌, ◌≤◌, [], ◌∷◌, Some, IfOk, OnOk};
 ghost use Rattle.std.specs.Result.{result_err};
-ghost use Rattle.quantity.specs.Measure.{is_zero};
 ghost use Rattle.book.specs.Grid.{amounts, taken};
 ghost use Rattle.book.specs.Rest.{ChangesHoldings};
 ghost use Rattle.refusals.specs.First.{first_some};
@@ -100,7 +99,7 @@ impl<Q: Quantity> SpanChange<Q> {
         for quarter in self.span.first..=self.span.last {
             let held = self.held(book, quarter);
             let changed = self.change.next(held, self.quantity).unwrap_or(held);
-            left = after_step(left, is_zero(held), is_zero(changed))?;
+            left = after_step(left, held.is_zero(), changed.is_zero())?;
         }
         Some(left)
     }
@@ -130,13 +129,6 @@ impl<Q: Quantity> SpanChange<Q> {
                 .apply(book, self.provider, quarter, self.quantity);
         }
     }
-}
-
-// Whether a holding takes no place.
-fn is_zero<Q: Quantity>(holding: Q) -> bool
-    ensures { result ≡ is_zero Q.Quantity.measure holding }
-{
-    holding.equals(Q::zero())
 }
 
 // How many places are free after one holding was changed; none where a place is wanting.

@@ -33,6 +33,8 @@ fn change_span<B: Book>(
     Ok(())
 }
 
+// Two public calls and not one with a `Change`: so the calls of a span are named and given.
+
 /// Raises every holding of a span by the quantity, or changes nothing and says why.
 pub fn raise_span<B: Book>(
     book: &mut B,

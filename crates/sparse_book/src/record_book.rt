@@ -42,7 +42,7 @@ impl<M: Slots<Slot = Option<Record<K::Row>>>, K: Quantity> RecordBook<M, K> {
     {
         let quantity = new.ok_or(refusal)?;
         let told = records::find(self.slots.slots(), provider, quarter);
-        if quantity.equals(K::zero()) {
+        if quantity.is_zero() {
             records::release(&mut self.slots, told);
             return Ok(());
         }

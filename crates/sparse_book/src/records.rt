@@ -19,7 +19,7 @@ fn has_key<R: Copy>(slot: Option<Record<R>>, provider: u8, quarter: u8) -> bool
 fn is_vacant<K: Quantity>(slot: Option<Record<K::Row>>) -> bool
     ensures { result ≡ vacant K.Quantity.measure slot }
 {
-    slot.is_none_or(|record| K::of_row(record.row).equals(K::zero()))
+    slot.is_none_or(|record| K::of_row(record.row).is_zero())
 }
 
 // The place of the record of a provider and quarter.
@@ -80,7 +80,7 @@ pub(crate) fn place_of<K: Quantity>(
     ensures { result ≡ (if is_zero K.Quantity.measure (told_by_place K.Quantity.measure slots.now told) then position (vacant K.Quantity.measure) slots.now else told) }
 {
     let held: K = told_at(slots, told);
-    if held.equals(K::zero()) {
+    if held.is_zero() {
         first_vacant::<K>(slots)
     } else {
         told

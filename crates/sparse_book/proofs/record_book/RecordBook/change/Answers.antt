@@ -14,20 +14,20 @@ invariant_of-self g c =
     let p = c.args.provider in
     let t = c.args.quarter in
     let q = c.in_ok-quantity.quantity in
-    let z : is_zero m q ≡ true = ap (m.alike q) (sym c.zero.ensures) ∙ sym c.if-equals.ensures in
+    let z : is_zero m q ≡ true = sym c.if-is_zero.ensures in
     let told : c.find-told.result ≡ position (keyed p t) ss = c.find-told.ensures ∙ ap (position (keyed p t)) c.slots.ensures in
     let now : g.M.Slots.slots c.release.new.slots ≡ settled m ss p t q = c.release.ensures.slots ∙ (ap (λ o. released o ss) told ∙ sym (settled_zero m ss p t q z)) in
     record { apart = ap apart now ∙ zero_apart m ss p t q c.args.self.now.apart z }
 
-pub returns-then-equals : goal.returns-then-equals
-returns-then-equals g c =
+pub returns-then-is_zero : goal.returns-then-is_zero
+returns-then-is_zero g c =
     let m = g.K.Quantity.measure in
     let ss = g.M.Slots.slots c.args.self.now.slots in
     let p = c.args.provider in
     let t = c.args.quarter in
     let q = c.in_ok-quantity.quantity in
     let is : c.args.new ≡ Some q = c.ok_or.ensures.ok_part ∙ ap result_ok c.in_ok-quantity.was in
-    let z : is_zero m q ≡ true = ap (m.alike q) (sym c.zero.ensures) ∙ sym c.if-equals.ensures in
+    let z : is_zero m q ≡ true = sym c.if-is_zero.ensures in
     let told : c.find-told.result ≡ position (keyed p t) ss = c.find-told.ensures ∙ ap (position (keyed p t)) c.slots.ensures in
     let now : g.M.Slots.slots c.release.new.slots ≡ settled m ss p t q = c.release.ensures.slots ∙ (ap (λ o. released o ss) told ∙ sym (settled_zero m ss p t q z)) in
     record {
@@ -46,7 +46,7 @@ returns-in_default-clause-answer g c =
     let t = c.args.quarter in
     let q = c.in_ok-quantity.quantity in
     let is : c.args.new ≡ Some q = c.ok_or.ensures.ok_part ∙ ap result_ok c.in_ok-quantity.was in
-    let z : is_zero m q ≡ false = ap (m.alike q) (sym c.zero.ensures) ∙ sym c.if-equals.ensures in
+    let z : is_zero m q ≡ false = sym c.if-is_zero.ensures in
     let told : c.find-told.result ≡ position (keyed p t) ss = c.find-told.ensures ∙ ap (position (keyed p t)) c.slots.ensures in
     let found = place_found m ss p t q z c.slots-2.result.now c.slots-2.ensures c.find-told.result c.place_of.result told c.place_of.ensures in
     full_answer m ss p t q c.args.self.now.apart c.args.refusal c.args.new is z (sym found ∙ c.in_default.is)
@@ -59,7 +59,7 @@ invariant_of-self-2 g c =
     let t = c.args.quarter in
     let q = c.in_ok-quantity.quantity in
     let i = c.in-Some.place in
-    let z : is_zero m q ≡ false = ap (m.alike q) (sym c.zero.ensures) ∙ sym c.if-equals.ensures in
+    let z : is_zero m q ≡ false = sym c.if-is_zero.ensures in
     let told : c.find-told.result ≡ position (keyed p t) ss = c.find-told.ensures ∙ ap (position (keyed p t)) c.slots.ensures in
     let found = sym (place_found m ss p t q z c.slots-2.result.now c.slots-2.ensures c.find-told.result c.place_of.result told c.place_of.ensures) ∙ c.in-Some.is in
     let now = settled_now m ss p t q i found c.find-told.result told c.row-row.result c.row-row.ensures _ _ c.release-2.ensures.slots c.write.ensures.slots in
@@ -74,7 +74,7 @@ returns g c =
     let q = c.in_ok-quantity.quantity in
     let i = c.in-Some.place in
     let is : c.args.new ≡ Some q = c.ok_or.ensures.ok_part ∙ ap result_ok c.in_ok-quantity.was in
-    let z : is_zero m q ≡ false = ap (m.alike q) (sym c.zero.ensures) ∙ sym c.if-equals.ensures in
+    let z : is_zero m q ≡ false = sym c.if-is_zero.ensures in
     let told : c.find-told.result ≡ position (keyed p t) ss = c.find-told.ensures ∙ ap (position (keyed p t)) c.slots.ensures in
     let found = sym (place_found m ss p t q z c.slots-2.result.now c.slots-2.ensures c.find-told.result c.place_of.result told c.place_of.ensures) ∙ c.in-Some.is in
     let now = settled_now m ss p t q i found c.find-told.result told c.row-row.result c.row-row.ensures _ _ c.release-2.ensures.slots c.write.ensures.slots in
