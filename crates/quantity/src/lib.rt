@@ -5,3 +5,4 @@ pub mod direction;
 pub mod fcr;
 pub mod interface;
 pub mod reserve;
+pub mod up_down;
