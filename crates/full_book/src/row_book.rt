@@ -9,7 +9,7 @@ ghost use Rattle.full_book.specs.Rows.{rows_held, rows_places};
 use crate::rows;
 use book::answers::{BookRefusal, Cause};
 use book::interface::Book;
-use book::range::in_range;
+use book::range::Position;
 use quantity::interface::Quantity;
 use record_list::slots::Slots;
 use std::marker::PhantomData;
@@ -27,22 +27,19 @@ impl<M: Slots<Slot = K::Row>, K: Quantity> RowBook<M, K> {
     #[tactic(auto, using(std::proofs::lemmas::Bool::Decides::nat_tests, crate::proofs::Tables::written_answer, crate::proofs::Tables::written_after, crate::proofs::Tables::few_zero_after, crate::proofs::Tables::few_answer, book::proofs::Grids::range_parts))]
     fn change(
         &mut self,
-        provider: u8,
-        quarter: u8,
+        at: Position,
         new: Option<K>,
         refusal: BookRefusal,
     ) -> Result<(), BookRefusal>
-        requires { in_range provider quarter ≡ true }
-        ensures answer { result_err result ≡ change_refusal K.Quantity.measure (rows_held K.Quantity.measure (M.slots self.old.rows)) (rows_places (M.slots self.old.rows)) refusal (everything provider quarter) provider quarter new }
-        ensures after { amounts K.Quantity.measure (rows_held K.Quantity.measure (M.slots self.new.rows)) ≡ changed K.Quantity.measure (rows_held K.Quantity.measure (M.slots self.old.rows)) provider quarter (result_err result) new }
+        ensures answer { result_err result ≡ change_refusal K.Quantity.measure (rows_held K.Quantity.measure (M.slots self.old.rows)) (rows_places (M.slots self.old.rows)) refusal (everything at.provider at.quarter) at.provider at.quarter new }
+        ensures after { amounts K.Quantity.measure (rows_held K.Quantity.measure (M.slots self.new.rows)) ≡ changed K.Quantity.measure (rows_held K.Quantity.measure (M.slots self.old.rows)) at.provider at.quarter (result_err result) new }
         ensures places { rows_places (M.slots self.new.rows) ≡ rows_places (M.slots self.old.rows) }
         ensures beyond { drop 3200 (M.slots self.new.rows) ≡ drop 3200 (M.slots self.old.rows) }
         ensures lender { M.loan self.new.rows ≡ M.loan self.old.rows }
     {
         let quantity = new.ok_or(refusal)?;
         if self.rows.slots().len() >= 3200 {
-            self.rows
-                .write(provider as usize * 100 + quarter as usize, quantity.row());
+            self.rows.write(rows::place(at), quantity.row());
             return Ok(());
         }
         if quantity.is_zero() {
@@ -89,11 +86,9 @@ impl<M: Slots<Slot = K::Row>, K: Quantity> Book for RowBook<M, K> {
         ensures beyond { drop 3200 (M.slots self.new.rows) ≡ drop 3200 (M.slots self.old.rows) }
         ensures lender { M.loan self.new.rows ≡ M.loan self.old.rows }
     {
-        if !in_range(provider, quarter) {
-            return Err(BookRefusal::OutsideRange);
-        }
+        let at = Position::new(provider, quarter)?;
         let sum = self.holding(provider, quarter).join(quantity);
-        self.change(provider, quarter, sum, BookRefusal::SumDoesNotFit)
+        self.change(at, sum, BookRefusal::SumDoesNotFit)
     }
 
     #[tactic(auto, using(book::proofs::Changes::lower_outside, book::proofs::Changes::lower_outside_after, book::proofs::Changes::lower_answer, book::proofs::Changes::lower_after))]
@@ -104,10 +99,8 @@ impl<M: Slots<Slot = K::Row>, K: Quantity> Book for RowBook<M, K> {
         ensures beyond { drop 3200 (M.slots self.new.rows) ≡ drop 3200 (M.slots self.old.rows) }
         ensures lender { M.loan self.new.rows ≡ M.loan self.old.rows }
     {
-        if !in_range(provider, quarter) {
-            return Err(BookRefusal::OutsideRange);
-        }
+        let at = Position::new(provider, quarter)?;
         let left = self.holding(provider, quarter).remainder(quantity);
-        self.change(provider, quarter, left, BookRefusal::NoRemainder)
+        self.change(at, left, BookRefusal::NoRemainder)
     }
 }

@@ -1,32 +1,36 @@
 //! The calls of a full book, over the slice of rows that it keeps:
 //! the row of each provider and quarter stands at provider * 100 + quarter.
-ghost use Rattle.std.specs.Prelude.{◌≡◌, ◌+◌};
+ghost use Rattle.std.specs.Prelude.{◌≡◌, ◌+◌, ◌*◌, ◌<◌};
 ghost use Rattle.std.specs.List.{count_by, range_with_len};
 ghost use Rattle.quantity.specs.Measure.{is_zero};
 ghost use Rattle.book.specs.Grid.{taken};
 ghost use Rattle.book.specs.Calls.{held_at};
 ghost use Rattle.full_book.specs.Rows.{rows_held, rows_places, blanked};
 
-use book::range::in_range;
+use book::range::Position;
 use quantity::interface::Quantity;
 use record_list::slots::fill;
+
+// The place of the row of a position.
+pub(crate) fn place(at: Position) -> usize
+    ensures value { result ≡ at.provider * 100 + at.quarter }
+    ensures bound { result < 3200 }
+{
+    at.provider as usize * 100 + at.quarter as usize
+}
 
 /// The holding, zero outside the range and where there are fewer than 3,200 rows.
 #[tactic(auto, using(std::proofs::lemmas::Bool::Decides::nat_tests, crate::proofs::Tables::told_few, crate::proofs::Tables::told_outside, crate::proofs::Tables::told_inside))]
 pub fn holding<K: Quantity>(rows: &[K::Row], provider: u8, quarter: u8) -> K
     ensures { result ≡ held_at K.Quantity.measure (rows_held K.Quantity.measure rows.now) provider quarter }
 {
-    if rows.len() < 3200 || !in_range(provider, quarter) {
+    let Ok(at) = Position::new(provider, quarter) else {
+        return K::zero();
+    };
+    if rows.len() < 3200 {
         return K::zero();
     }
-    K::of_row(rows[provider as usize * 100 + quarter as usize])
-}
-
-// Whether the holding is zero.
-fn is_free<K: Quantity>(rows: &[K::Row], provider: u8, quarter: u8) -> bool
-    ensures { result ≡ is_zero K.Quantity.measure (held_at K.Quantity.measure (rows_held K.Quantity.measure rows.now) provider quarter) }
-{
-    holding::<K>(rows, provider, quarter).is_zero()
+    K::of_row(rows[place(at)])
 }
 
 // How many of a provider's 100 holdings are zero.
@@ -34,7 +38,7 @@ fn free_of<K: Quantity>(rows: &[K::Row], provider: u8) -> usize
     ensures { result ≡ count_by (λ quarter. is_zero K.Quantity.measure (held_at K.Quantity.measure (rows_held K.Quantity.measure rows.now) provider quarter)) (range_with_len 0 100) }
 {
     (0..100)
-        .filter(|&quarter| is_free::<K>(rows, provider, quarter))
+        .filter(|&quarter| holding::<K>(rows, provider, quarter).is_zero())
         .count()
 }
 
@@ -46,6 +50,7 @@ pub fn free<K: Quantity>(rows: &[K::Row]) -> usize
     if rows.len() < 3200 {
         return 0;
     }
+    // Not by the count of a book's holdings, which asks the book: its question would lead back to itself.
     // A loop: `sum` asks beforehand that the sum fits, which only the promise of each count shows.
     let mut free: usize = 0;
     for provider in 0..32 {

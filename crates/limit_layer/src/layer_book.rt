@@ -1,40 +1,46 @@
 ghost use Rattle.std.specs.Prelude.{◌≡◌};
 ghost use Rattle.std.specs.Result.{result_err};
+ghost use Rattle.quantity.specs.Directions.{number};
 ghost use Rattle.book.specs.Numbers.{admission_number};
-ghost use Rattle.limit_layer.specs.Limits.{limited, next_layer, limit_at, within};
+ghost use Rattle.limit_layer.specs.Limits.{limited, next_layer, limit_at, within_one, within};
 
 use crate::layer::LimitLayer;
 use crate::table::LimitTable;
 use book::answers::{BookRefusal, Cause};
 use book::interface::Book;
-use book::range::in_range;
+use book::range::{Position, in_range};
 use quantity::direction::Direction;
 use quantity::interface::Quantity;
 use quantity::reserve::ReserveQuantity;
+use quantity::up_down::UpDown;
 
-// Whether the tenths of a provider's quantity are within its limits.
+// Whether tenths in one direction are within a provider's limit.
+fn within_limit(
+    limits: &LimitTable,
+    layer: u8,
+    provider: u8,
+    direction: Direction,
+    tenths: u16,
+) -> Result<(), Cause>
+    ensures { result_err result ≡ within_one layer direction (limit_at limits.now provider (number direction)) tenths }
+{
+    if u32::from(tenths) > limits.limit(provider, direction) {
+        return Err(Cause::Limit { layer, direction });
+    }
+    Ok(())
+}
+
+// Whether the tenths of a provider's quantity are within its limits: up before down.
 fn within_limits(
     limits: &LimitTable,
     layer: u8,
     provider: u8,
-    up: u16,
-    down: u16,
+    tenths: UpDown<u16>,
 ) -> Result<(), Cause>
-    ensures { result_err result ≡ within layer (limit_at limits.now provider 0) (limit_at limits.now provider 1) up down }
+    ensures { result_err result ≡ within layer (limit_at limits.now provider 0) (limit_at limits.now provider 1) tenths.up tenths.down }
 {
-    if u32::from(up) > limits.limit(provider, Direction::Up) {
-        return Err(Cause::Limit {
-            layer,
-            direction: Direction::Up,
-        });
-    }
-    if u32::from(down) > limits.limit(provider, Direction::Down) {
-        return Err(Cause::Limit {
-            layer,
-            direction: Direction::Down,
-        });
-    }
-    Ok(())
+    within_limit(limits, layer, provider, Direction::Up, tenths.up)?;
+    within_limit(limits, layer, provider, Direction::Down, tenths.down)
 }
 
 impl<B: Book> Book for LimitLayer<B>
@@ -66,23 +72,20 @@ where
             return Ok(());
         }
         below?;
-        within_limits(
-            &self.limits,
-            self.layer(),
-            provider,
-            quantity.tenths(Direction::Up),
-            quantity.tenths(Direction::Down),
-        )
+        let tenths = UpDown {
+            up: quantity.tenths(Direction::Up),
+            down: quantity.tenths(Direction::Down),
+        };
+        within_limits(&self.limits, self.layer(), provider, tenths)
     }
 
     fn layer(&self) -> u8 {
         self.below.layer().saturating_add(1)
     }
 
+    #[tactic(auto, using(book::proofs::Changes::raise_outside, book::proofs::Changes::raise_outside_after))]
     fn raise(&mut self, provider: u8, quarter: u8, quantity: B::Q) -> Result<(), BookRefusal> {
-        if !in_range(provider, quarter) {
-            return Err(BookRefusal::OutsideRange);
-        }
+        Position::new(provider, quarter)?;
         let held = self.below.holding(provider, quarter);
         let sum = held.join(quantity).ok_or(BookRefusal::SumDoesNotFit)?;
         self.admits(provider, quarter, sum)?;

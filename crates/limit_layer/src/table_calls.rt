@@ -2,23 +2,12 @@ ghost use Rattle.std.specs.Prelude.{◌≡◌, ℕ};
 ghost use Rattle.std.specs.Result.{result_err};
 ghost use Rattle.quantity.specs.Directions.{number};
 ghost use Rattle.refusals.specs.Numbers.{answer_number};
-ghost use Rattle.limit_layer.specs.Limits.{limit_in, limit_at, set_refusal, after_set};
+ghost use Rattle.limit_layer.specs.Limits.{limit_at, set_refusal, after_set};
 
 use crate::table::{LimitTable, Limits};
 use quantity::direction::Direction;
 use refusals::refusal::Refusal;
-
-impl Limits {
-    // The limit in a direction.
-    fn in_direction(&self, direction: Direction) -> u32
-        ensures { result ≡ limit_in self.now (number direction) }
-    {
-        match direction {
-            Direction::Up => self.up,
-            Direction::Down => self.down,
-        }
-    }
-}
+use refusals::span::Provider;
 
 impl LimitTable {
     /// A table in which every limit is zero.
@@ -35,14 +24,8 @@ impl LimitTable {
         ensures answer { answer_number (result_err result) ≡ answer_number (set_refusal provider) }
         ensures after { (p d : ℕ) → limit_at self.new p d ≡ after_set (limit_at self.old) provider (number direction) tenths p d }
     {
-        let place = usize::from(provider);
-        if place >= self.limits.len() {
-            return Err(Refusal::NoSuchProvider);
-        }
-        match direction {
-            Direction::Up => self.limits[place].up = tenths,
-            Direction::Down => self.limits[place].down = tenths,
-        }
+        let provider = Provider::try_from(provider)?;
+        self.limits[usize::from(provider.number)].set(direction, tenths);
         Ok(())
     }
 
@@ -52,6 +35,6 @@ impl LimitTable {
     {
         self.limits
             .get(usize::from(provider))
-            .map_or(0, |limits| limits.in_direction(direction))
+            .map_or(0, |limits| limits.get(direction))
     }
 }

@@ -10,7 +10,7 @@ use crate::record::Record;
 use crate::records;
 use book::answers::{BookRefusal, Cause};
 use book::interface::Book;
-use book::range::in_range;
+use book::range::Position;
 use quantity::interface::Quantity;
 use record_list::slots::Slots;
 use std::marker::PhantomData;
@@ -28,20 +28,18 @@ impl<M: Slots<Slot = Option<Record<K::Row>>>, K: Quantity> RecordBook<M, K> {
     // Makes a holding `new`, refuses as told where that is none, or where there is no free slot.
     fn change(
         &mut self,
-        provider: u8,
-        quarter: u8,
+        at: Position,
         new: Option<K>,
         refusal: BookRefusal,
     ) -> Result<(), BookRefusal>
-        requires { in_range provider quarter ≡ true }
-        ensures answer { result_err result ≡ change_refusal K.Quantity.measure (records_held K.Quantity.measure (M.slots self.old.slots)) (length (M.slots self.old.slots)) refusal (everything provider quarter) provider quarter new }
-        ensures slots { M.slots self.new.slots ≡ changed_slots K.Quantity.measure (M.slots self.old.slots) provider quarter (result_err result) new }
-        ensures after { amounts K.Quantity.measure (records_held K.Quantity.measure (M.slots self.new.slots)) ≡ changed K.Quantity.measure (records_held K.Quantity.measure (M.slots self.old.slots)) provider quarter (result_err result) new }
+        ensures answer { result_err result ≡ change_refusal K.Quantity.measure (records_held K.Quantity.measure (M.slots self.old.slots)) (length (M.slots self.old.slots)) refusal (everything at.provider at.quarter) at.provider at.quarter new }
+        ensures slots { M.slots self.new.slots ≡ changed_slots K.Quantity.measure (M.slots self.old.slots) at.provider at.quarter (result_err result) new }
+        ensures after { amounts K.Quantity.measure (records_held K.Quantity.measure (M.slots self.new.slots)) ≡ changed K.Quantity.measure (records_held K.Quantity.measure (M.slots self.old.slots)) at.provider at.quarter (result_err result) new }
         ensures places { length (M.slots self.new.slots) ≡ length (M.slots self.old.slots) }
         ensures lender { M.loan self.new.slots ≡ M.loan self.old.slots }
     {
         let quantity = new.ok_or(refusal)?;
-        let told = records::find(self.slots.slots(), provider, quarter);
+        let told = records::find(self.slots.slots(), at);
         if quantity.is_zero() {
             records::release(&mut self.slots, told);
             return Ok(());
@@ -51,6 +49,7 @@ impl<M: Slots<Slot = Option<Record<K::Row>>>, K: Quantity> RecordBook<M, K> {
             return Err(BookRefusal::NoFreePlace);
         };
         let row = quantity.row();
+        let Position { provider, quarter } = at;
         records::release(&mut self.slots, told);
         self.slots.write(
             place,
@@ -101,11 +100,9 @@ impl<M: Slots<Slot = Option<Record<K::Row>>>, K: Quantity> Book for RecordBook<M
         ensures slots { M.slots self.new.slots ≡ raised_slots K.Quantity.measure (M.slots self.old.slots) provider quarter quantity }
         ensures lender { M.loan self.new.slots ≡ M.loan self.old.slots }
     {
-        if !in_range(provider, quarter) {
-            return Err(BookRefusal::OutsideRange);
-        }
+        let at = Position::new(provider, quarter)?;
         let sum = self.holding(provider, quarter).join(quantity);
-        self.change(provider, quarter, sum, BookRefusal::SumDoesNotFit)
+        self.change(at, sum, BookRefusal::SumDoesNotFit)
     }
 
     #[tactic(auto, using(book::proofs::Changes::lower_outside, book::proofs::Changes::lower_outside_after, book::proofs::Changes::lower_answer, book::proofs::Changes::lower_after, crate::proofs::Calls::lower_outside_slots, crate::proofs::Calls::lower_slots))]
@@ -116,10 +113,8 @@ impl<M: Slots<Slot = Option<Record<K::Row>>>, K: Quantity> Book for RecordBook<M
         ensures slots { M.slots self.new.slots ≡ lowered_slots K.Quantity.measure (M.slots self.old.slots) provider quarter quantity }
         ensures lender { M.loan self.new.slots ≡ M.loan self.old.slots }
     {
-        if !in_range(provider, quarter) {
-            return Err(BookRefusal::OutsideRange);
-        }
+        let at = Position::new(provider, quarter)?;
         let left = self.holding(provider, quarter).remainder(quantity);
-        self.change(provider, quarter, left, BookRefusal::NoRemainder)
+        self.change(at, left, BookRefusal::NoRemainder)
     }
 }

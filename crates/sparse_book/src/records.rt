@@ -6,14 +6,14 @@ ghost use Rattle.book.specs.Calls.{held_at};
 ghost use Rattle.sparse_book.specs.Records.{keyed, vacant, records_held, told_by_slot, told_by_place, vacancies, released};
 
 use crate::record::Record;
-use book::range::in_range;
+use book::range::Position;
 use quantity::interface::Quantity;
 use record_list::slots::Slots;
 
-fn has_key<R: Copy>(slot: Option<Record<R>>, provider: u8, quarter: u8) -> bool
-    ensures { result ≡ keyed provider quarter slot }
+fn has_key<R: Copy>(slot: Option<Record<R>>, at: Position) -> bool
+    ensures { result ≡ keyed at.provider at.quarter slot }
 {
-    slot.is_some_and(|record| record.provider == provider && record.quarter == quarter)
+    slot.is_some_and(|record| record.provider == at.provider && record.quarter == at.quarter)
 }
 
 fn is_vacant<K: Quantity>(slot: Option<Record<K::Row>>) -> bool
@@ -22,13 +22,11 @@ fn is_vacant<K: Quantity>(slot: Option<Record<K::Row>>) -> bool
     slot.is_none_or(|record| K::of_row(record.row).is_zero())
 }
 
-// The place of the record of a provider and quarter.
-pub(crate) fn find<R: Copy>(slots: &[Option<Record<R>>], provider: u8, quarter: u8) -> Option<usize>
-    ensures { result ≡ position (keyed provider quarter) slots.now }
+// The place of the record of a position.
+pub(crate) fn find<R: Copy>(slots: &[Option<Record<R>>], at: Position) -> Option<usize>
+    ensures { result ≡ position (keyed at.provider at.quarter) slots.now }
 {
-    slots
-        .iter()
-        .position(|slot| has_key(*slot, provider, quarter))
+    slots.iter().position(|slot| has_key(*slot, at))
 }
 
 // The place of the first free slot.
@@ -59,10 +57,10 @@ fn told_at<K: Quantity>(slots: &[Option<Record<K::Row>>], place: Option<usize>) 
 pub fn holding<K: Quantity>(slots: &[Option<Record<K::Row>>], provider: u8, quarter: u8) -> K
     ensures { result ≡ held_at K.Quantity.measure (records_held K.Quantity.measure slots.now) provider quarter }
 {
-    if !in_range(provider, quarter) {
+    let Ok(at) = Position::new(provider, quarter) else {
         return K::zero();
-    }
-    told_at(slots, find(slots, provider, quarter))
+    };
+    told_at(slots, find(slots, at))
 }
 
 /// How many slots are free.

@@ -11,8 +11,8 @@ pub invariant_of-self : goal.invariant_of-self
 invariant_of-self g c =
     let m = g.K.Quantity.measure in
     let ss = g.M.Slots.slots c.args.self.now.slots in
-    let p = c.args.provider in
-    let t = c.args.quarter in
+    let p = c.args.at.provider in
+    let t = c.args.at.quarter in
     let q = c.in_ok-quantity.quantity in
     let z : is_zero m q ≡ true = sym c.if-is_zero.ensures in
     let told : c.find-told.result ≡ position (keyed p t) ss = c.find-told.ensures ∙ ap (position (keyed p t)) c.slots.ensures in
@@ -23,8 +23,8 @@ pub returns-then-is_zero : goal.returns-then-is_zero
 returns-then-is_zero g c =
     let m = g.K.Quantity.measure in
     let ss = g.M.Slots.slots c.args.self.now.slots in
-    let p = c.args.provider in
-    let t = c.args.quarter in
+    let p = c.args.at.provider in
+    let t = c.args.at.quarter in
     let q = c.in_ok-quantity.quantity in
     let is : c.args.new ≡ Some q = c.ok_or.ensures.ok_part ∙ ap result_ok c.in_ok-quantity.was in
     let z : is_zero m q ≡ true = sym c.if-is_zero.ensures in
@@ -42,8 +42,8 @@ pub returns-in_default-clause-answer : goal.returns-in_default-clause-answer
 returns-in_default-clause-answer g c =
     let m = g.K.Quantity.measure in
     let ss = g.M.Slots.slots c.args.self.now.slots in
-    let p = c.args.provider in
-    let t = c.args.quarter in
+    let p = c.args.at.provider in
+    let t = c.args.at.quarter in
     let q = c.in_ok-quantity.quantity in
     let is : c.args.new ≡ Some q = c.ok_or.ensures.ok_part ∙ ap result_ok c.in_ok-quantity.was in
     let z : is_zero m q ≡ false = sym c.if-is_zero.ensures in
@@ -55,22 +55,22 @@ pub invariant_of-self-2 : goal.invariant_of-self-2
 invariant_of-self-2 g c =
     let m = g.K.Quantity.measure in
     let ss = g.M.Slots.slots c.args.self.now.slots in
-    let p = c.args.provider in
-    let t = c.args.quarter in
+    let p = c.args.at.provider in
+    let t = c.args.at.quarter in
     let q = c.in_ok-quantity.quantity in
     let i = c.in-Some.place in
     let z : is_zero m q ≡ false = sym c.if-is_zero.ensures in
     let told : c.find-told.result ≡ position (keyed p t) ss = c.find-told.ensures ∙ ap (position (keyed p t)) c.slots.ensures in
     let found = sym (place_found m ss p t q z c.slots-2.result.now c.slots-2.ensures c.find-told.result c.place_of.result told c.place_of.ensures) ∙ c.in-Some.is in
     let now = settled_now m ss p t q i found c.find-told.result told c.row-row.result c.row-row.ensures _ _ c.release-2.ensures.slots c.write.ensures.slots in
-    record { apart = ap apart now ∙ some_apart m ss p t q c.args.self.now.apart c.requires z i found }
+    record { apart = ap apart now ∙ some_apart m ss p t q c.args.self.now.apart c.args.at.inside z i found }
 
 pub returns : goal.returns
 returns g c =
     let m = g.K.Quantity.measure in
     let ss = g.M.Slots.slots c.args.self.now.slots in
-    let p = c.args.provider in
-    let t = c.args.quarter in
+    let p = c.args.at.provider in
+    let t = c.args.at.quarter in
     let q = c.in_ok-quantity.quantity in
     let i = c.in-Some.place in
     let is : c.args.new ≡ Some q = c.ok_or.ensures.ok_part ∙ ap result_ok c.in_ok-quantity.was in
