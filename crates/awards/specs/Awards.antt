@@ -4,9 +4,10 @@ use Rattle.std.specs.List.{list_any}
 use Rattle.quantity.specs.Measure.{Measure, is_zero}
 use Rattle.book.specs.Grid.{Grid, amounts, total}
 use Rattle.book.specs.Admissions.{Admission}
+use Rattle.refusals.specs.Checks.{no_provider}
 use Rattle.refusals.specs.First.{first_some, when, unless_refused}
 use Rattle.refusals.specs.declared.refusal.Refusal.{Refusal}
-use Rattle.refusals.specs.declared.refusal.Refusal.TheVariants.{NoSuchProvider, NoSuchSpan, ZeroQuantity, WrongPriceCount, PriceTooLarge, TooManyAwards}
+use Rattle.refusals.specs.declared.refusal.Refusal.TheVariants.{NoSuchSpan, ZeroQuantity, WrongPriceCount, PriceTooLarge, TooManyAwards}
 use Rattle.span_moves.specs.declared.change.Change.TheVariants.{Raising}
 use Rattle.span_moves.specs.Spans.{spanned}
 use Rattle.span_moves.specs.Moves.{span_refusal}
@@ -28,7 +29,7 @@ overpriced prices = list_any (λ price. nat_lt most_cents price) prices
 -- why an award is refused by itself, in this order; awards are those that the sheet has
 abbrev pub award_conditions : {Q R : Type 0} → Measure Q R → (directions awards provider block : ℕ) → Q → List ℕ → List (Option Refusal)
 award_conditions m directions awards provider block quantity prices =
-    when (nat_le 32 provider) NoSuchProvider
+    no_provider provider
     ∷ (when (nat_lt 6 block) NoSuchSpan
     ∷ (when (is_zero m quantity) ZeroQuantity
     ∷ (when (not (length prices == directions)) WrongPriceCount

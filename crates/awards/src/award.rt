@@ -1,4 +1,4 @@
-ghost use Rattle.std.specs.Prelude.{◌≡◌};
+ghost use Rattle.std.specs.Prelude.{◌≡◌, IfOk};
 ghost use Rattle.std.specs.Result.{result_err};
 ghost use Rattle.book.specs.Grid.{amounts};
 ghost use Rattle.book.specs.Rest.{ChangesHoldings};
@@ -17,19 +17,19 @@ use book::interface::Book;
 use quantity::interface::Quantity;
 use quantity::reserve::ReserveQuantity;
 use refusals::refusal::Refusal;
+use refusals::span::Provider;
 use span_moves::spans::raise_span;
 
-// The refusals of an award that need no book.
+// The refusals of an award that need no book, or its provider.
 fn check_award<Q: ReserveQuantity>(
     sheet: &Sheet,
     award: Award<Q>,
     prices: &[u32],
-) -> Result<(), Refusal>
-    ensures { result_err result ≡ first_some (award_conditions Q.Quantity.measure Q.ReserveQuantity.directions (view sheet.now).awards award.provider award.block award.quantity prices.now) }
+) -> Result<Provider, Refusal>
+    ensures provider { IfOk result (λ p. p.number ≡ award.provider) }
+    ensures refusal { result_err result ≡ first_some (award_conditions Q.Quantity.measure Q.ReserveQuantity.directions (view sheet.now).awards award.provider award.block award.quantity prices.now) }
 {
-    if award.provider >= 32 {
-        return Err(Refusal::NoSuchProvider);
-    }
+    let provider = Provider::try_from(award.provider)?;
     if award.block > 6 {
         return Err(Refusal::NoSuchSpan);
     }
@@ -45,7 +45,7 @@ fn check_award<Q: ReserveQuantity>(
     if sheet.award_count() >= MOST_AWARDS {
         return Err(Refusal::TooManyAwards);
     }
-    Ok(())
+    Ok(provider)
 }
 
 /// Awards a quantity to a provider in every quarter of a block, at a price for each direction: the obligations are raised, and
@@ -65,7 +65,7 @@ where
     ensures rest { ChangesHoldings O.Book.places O.Book.admission O.Book.layer_number obligations.old obligations.new }
     ensures sheet { view sheet.new ≡ award_sheet O.Q.Quantity.measure (O.Book.holdings obligations.old) (O.Book.places obligations.old) (O.Book.admission obligations.old) O.Q.ReserveQuantity.tenths_in O.Q.ReserveQuantity.directions quarters award.provider award.block award.quantity prices.now (view sheet.old) }
 {
-    check_award(sheet, award, prices)?;
+    let provider = check_award(sheet, award, prices)?;
     let block = Block {
         quarters,
         number: award.block,
@@ -78,6 +78,6 @@ where
         award.quantity,
     )?;
     let earned = award_earnings(award.quantity, prices, block.count());
-    sheet.enter(award.provider, earned);
+    sheet.enter(provider, earned);
     Ok(())
 }

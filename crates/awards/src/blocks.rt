@@ -1,17 +1,6 @@
 ghost use Rattle.std.specs.Prelude.{◌≡◌, ℕ, ◌+◌, ◌<◌, ◌≤◌, ◌==◌};
 ghost use Rattle.awards.specs.Blocks.{starts, first_of_block, end_of_block, last_of_block, count_of_block, block_of, in_block};
 
-// The quarter at which a block from 0 to 5 starts; at 6 the one at which the last block ends.
-fn block_start(quarters: u8, block: u8) -> u8
-    requires { block ≤ 6 }
-    ensures { result ≡ starts quarters block }
-{
-    if block == 0 {
-        return 0;
-    }
-    quarters.saturating_sub(80) + 16 * (block - 1)
-}
-
 /// A block of a day of so many quarters. A number from 6 on is the whole day.
 #[derive(Clone, Copy, PartialEq, Eq, Debug)]
 pub struct Block {
@@ -20,15 +9,33 @@ pub struct Block {
 }
 
 impl Block {
+    // The quarter at which a block from 0 to 5 starts; at 6 the one at which the last block ends.
+    fn start(self) -> u8
+        requires { self.number ≤ 6 }
+        ensures { result ≡ starts self.quarters self.number }
+    {
+        if self.number == 0 {
+            return 0;
+        }
+        self.quarters.saturating_sub(80) + 16 * (self.number - 1)
+    }
+
+    // The block after this one.
+    fn next(self) -> Block
+        requires { self.number < 6 }
+        ensures { result ≡ record { quarters = self.quarters; number = self.number + 1 } }
+    {
+        Block {
+            number: self.number + 1,
+            ..self
+        }
+    }
+
     /// The first quarter.
     pub fn first(self) -> u8
         ensures { result ≡ first_of_block self.quarters self.number }
     {
-        if self.number < 6 {
-            block_start(self.quarters, self.number)
-        } else {
-            0
-        }
+        if self.number < 6 { self.start() } else { 0 }
     }
 
     /// The first quarter after the block.
@@ -36,7 +43,7 @@ impl Block {
         ensures { result ≡ end_of_block self.quarters self.number }
     {
         if self.number < 6 {
-            block_start(self.quarters, self.number + 1)
+            self.next().start()
         } else {
             self.quarters
         }

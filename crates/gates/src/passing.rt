@@ -10,7 +10,6 @@ use crate::gate::Gate;
 use book::interface::Book;
 use quantity::interface::Quantity;
 use record_list::interface::Records;
-use refusals::passage::Passage;
 use refusals::refusal::Refusal;
 use requests::request::{Request, Status};
 use span_moves::spans::move_span;
@@ -56,14 +55,7 @@ fn make_move<O: Book>(obligations: &mut O, request: Request<<O::Q as Quantity>::
     ensures rest { ChangesHoldings O.Book.places O.Book.admission O.Book.layer_number obligations.old obligations.new }
 {
     let quantity = passing_quantity(request.giving);
-    let Passage {
-        giver,
-        taker,
-        first,
-        last,
-    } = request.passage;
-    let made = move_span(obligations, giver, taker, first, last, quantity);
-    status_of_move(made)
+    status_of_move(move_span(obligations, request.passage, quantity))
 }
 
 // Decides one request.

@@ -28,7 +28,7 @@ pub enum Status {
 }
 
 /// A request to pass volume from a giver to a taker over a span of quarters.
-#[derive(Clone, Copy)]
+#[derive(Clone, Copy, PartialEq, Eq, Debug)]
 pub struct Request<R: Copy> {
     pub passage: Passage,
     /// The row of the quantity that the giver announced last, if it did.

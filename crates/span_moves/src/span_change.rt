@@ -16,7 +16,7 @@ use refusals::refusal::Refusal;
 use refusals::span::{Provider, Span};
 
 /// One change of a provider's holdings, by one quantity in every quarter of a span.
-#[derive(Clone, Copy)]
+#[derive(Clone, Copy, PartialEq, Eq, Debug)]
 pub struct SpanChange<Q> {
     pub change: Change,
     pub provider: Provider,

@@ -3,6 +3,7 @@ ghost use Rattle.awards.specs.Sheets.{view, entered, enterable};
 
 use crate::prices::MOST_CENTS;
 use crate::sheet::Sheet;
+use refusals::span::Provider;
 
 /// How many awards a day has at most.
 pub const MOST_AWARDS: u16 = 512;
@@ -12,14 +13,14 @@ const MOST_EARNED: u64 = MOST_CENTS as u64 * 10_000 * 100 * 2;
 
 impl Sheet {
     // Enters an award of a provider, or leaves the sheet as it is where that cannot be entered.
-    pub(crate) fn enter(&mut self, provider: u8, amount: u64)
-        ensures { view self.new ≡ (if enterable provider amount (view self.old) then entered provider amount (view self.old) else view self.old) }
+    pub(crate) fn enter(&mut self, provider: Provider, amount: u64)
+        ensures { view self.new ≡ (if enterable provider.number amount (view self.old) then entered provider.number amount (view self.old) else view self.old) }
     {
-        if provider >= 32 || self.awards >= MOST_AWARDS || amount > MOST_EARNED {
+        if self.awards >= MOST_AWARDS || amount > MOST_EARNED {
             return;
         }
         self.awards += 1;
-        let account = &mut self.accounts[provider as usize];
+        let account = &mut self.accounts[usize::from(provider.number)];
         account.earned += amount;
     }
 }
