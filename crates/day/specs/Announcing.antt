@@ -1,31 +1,16 @@
 -- What an announcement answers and changes, by the day, the deadline and the list.
-use Rattle.std.specs.Prelude.{ℕ, not, ◌&&◌, List, [], ◌∷◌, ◌++◌, ℤ, negsuc, Option, ◌==◌, int_lt, nat_le, nat_lt}
+use Rattle.std.specs.Prelude.{ℕ, not, ◌&&◌, List, [], ◌∷◌, ◌++◌, ℤ, Option, ◌==◌, int_lt, nat_le, nat_lt}
 use Rattle.quantity.specs.Measure.{Measure, is_zero}
 use Rattle.refusals.specs.declared.refusal.Refusal.{Refusal}
-use Rattle.refusals.specs.declared.refusal.Refusal.TheVariants.{NoSuchProvider, NoSuchSpan, SameProvider, ZeroQuantity, MinuteBeforeLast, TooLate}
+use Rattle.refusals.specs.declared.refusal.Refusal.TheVariants.{NoSuchSpan, SameProvider, ZeroQuantity, MinuteBeforeLast, TooLate}
+use Rattle.refusals.specs.Checks.{no_provider}
 use Rattle.refusals.specs.First.{first_some, when, unless_refused}
 use Rattle.requests.specs.declared.request.Request.{Request}
 use Rattle.requests.specs.declared.finding.Joining.{Joining}
-use Rattle.requests.specs.declared.finding.Joining.TheVariants.{Unresolved, NotBalanced}
 use Rattle.requests.specs.Announcing.{announcement_refusal, announcement_list}
 use Rattle.day.specs.declared.stages.Day.{Day}
 use Rattle.day.specs.declared.announcing.Announcement.{Announcement}
-
--- the minutes from which announcing and reconciling are over: 13:30 and 14:00 on the day before
-abbrev pub announcing_ends : ℤ
-announcing_ends = negsuc 629
-
-abbrev pub reconciling_ends : ℤ
-reconciling_ends = negsuc 599
-
--- in the first stage every unresolved request may be joined, in the second only one that does not balance
-abbrev pub deadline_of : Joining → ℤ
-deadline_of Unresolved = announcing_ends
-deadline_of NotBalanced = reconciling_ends
-
--- a provider above 31
-abbrev pub no_provider : ℕ → Option Refusal
-no_provider p = when (not (nat_lt p 32)) NoSuchProvider
+use Rattle.day.specs.Minutes.{deadline_of}
 
 -- a span backwards or past the day
 abbrev pub no_span : Day → ℕ → ℕ → Option Refusal

@@ -4,14 +4,8 @@ use Rattle.refusals.specs.declared.refusal.Refusal.{Refusal}
 use Rattle.refusals.specs.declared.refusal.Refusal.TheVariants.{MinuteBeforeLast, TooEarly}
 use Rattle.refusals.specs.First.{first_some, when}
 use Rattle.gates.specs.declared.gate.Gate.{Gate}
-use Rattle.gates.specs.declared.gate.Gate.TheVariants.{First, Second}
 use Rattle.day.specs.declared.stages.Day.{Day}
-use Rattle.day.specs.Announcing.{announcing_ends, reconciling_ends}
-
--- a gate opens when announcing or reconciling is over
-abbrev pub opens_at : Gate → ℤ
-opens_at First = announcing_ends
-opens_at Second = reconciling_ends
+use Rattle.day.specs.Minutes.{opens_at}
 
 -- why a gate does not open, if it does not
 abbrev pub gate_refusal : Gate → Day → ℤ → Option Refusal

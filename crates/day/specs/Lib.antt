@@ -1,3 +1,4 @@
+pub mod Minutes
 pub mod Announcing
 pub mod Opening
 pub mod Questions

@@ -2,12 +2,12 @@
 use Rattle.std.specs.Prelude.{ℕ, ◌-◌, Bool, cond, not, [], ◌∷◌, Some, None, Option, nat_lt}
 use Rattle.refusals.specs.declared.refusal.Refusal.{Refusal}
 use Rattle.refusals.specs.declared.refusal.Refusal.TheVariants.{NoSuchSpan}
+use Rattle.refusals.specs.Checks.{no_provider}
 use Rattle.refusals.specs.First.{first_some, when}
 use Rattle.requests.specs.declared.request.Status.{Status}
 use Rattle.requests.specs.declared.request.Status.TheVariants.{WaitingForCounterpart}
 use Rattle.requests.specs.declared.request.Request.{Request}
 use Rattle.day.specs.declared.stages.Day.{Day}
-use Rattle.day.specs.Announcing.{no_provider}
 
 -- no such provider, or the quarter is outside the day
 abbrev pub question_refusal : Day → ℕ → ℕ → Option Refusal

@@ -5,9 +5,9 @@ ghost use Rattle.book.specs.Rest.{ChangesHoldings};
 ghost use Rattle.refusals.specs.First.{unless_refused};
 ghost use Rattle.gates.specs.Gates.{after_moves, gated, Judged};
 ghost use Rattle.day.specs.Announcing.{at_minute};
-ghost use Rattle.day.specs.Gating.{opens_at, gate_refusal, refusal_in};
+ghost use Rattle.day.specs.Gating.{gate_refusal, refusal_in};
 
-use crate::announcing::{ANNOUNCING_ENDS, RECONCILING_ENDS};
+use crate::minutes::gate_opens;
 use crate::stages::{BeforeGate, Day, InStage};
 use book::interface::Book;
 use gates::gate::Gate;
@@ -16,16 +16,6 @@ use quantity::interface::Quantity;
 use record_list::interface::Records;
 use refusals::refusal::Refusal;
 use requests::request::Request;
-
-/// The minute from which a gate opens: when announcing or reconciling is over.
-pub fn gate_opens(gate: Gate) -> i32
-    ensures { result ≡ opens_at gate }
-{
-    match gate {
-        Gate::First => ANNOUNCING_ENDS,
-        Gate::Second => RECONCILING_ENDS,
-    }
-}
 
 // Whether a gate opens, by the day before and after it.
 fn check_gate(day: Day, later: Day, gate: Gate) -> Result<(), Refusal>

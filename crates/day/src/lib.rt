@@ -2,8 +2,8 @@
 
 pub mod announcing;
 pub mod awarding;
-pub mod counting;
 pub mod gating;
+pub mod minutes;
 pub mod opening;
 pub mod questions;
 pub mod stages;

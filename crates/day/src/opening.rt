@@ -4,9 +4,9 @@ ghost use Rattle.refusals.specs.First.{unless_refused};
 ghost use Rattle.awards.specs.Sheets.{view, blank_view};
 ghost use Rattle.day.specs.Opening.{nothing_held, opening_refusal, opened_day};
 
-use crate::counting::count_holdings;
 use crate::stages::{Announcing, Day};
 use awards::sheet::Sheet;
+use book::counting::count_holdings;
 use book::interface::Book;
 use quantity::interface::Quantity;
 use record_list::interface::Records;

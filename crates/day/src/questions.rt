@@ -12,24 +12,20 @@ use book::interface::Book;
 use quantity::direction::Direction;
 use quantity::interface::Quantity;
 use quantity::reserve::ReserveQuantity;
+use quantity::up_down::UpDown;
 use record_list::interface::Records;
 use refusals::refusal::Refusal;
+use refusals::span::Provider;
 use requests::request::{Request, Status};
 
 /// What is missing in each direction, in tenths of a MW.
-#[derive(Clone, Copy, PartialEq, Eq, Debug)]
-pub struct Missing {
-    pub up: u16,
-    pub down: u16,
-}
+pub type Missing = UpDown<u16>;
 
 // A provider, and a quarter of the day.
 fn check_question(day: Day, provider: u8, quarter: u8) -> Result<(), Refusal>
     ensures { result_err result ≡ question_refusal day provider quarter }
 {
-    if provider >= 32 {
-        return Err(Refusal::NoSuchProvider);
-    }
+    Provider::try_from(provider)?;
     if quarter >= day.quarters {
         return Err(Refusal::NoSuchSpan);
     }

@@ -1,4 +1,5 @@
-ghost use Rattle.std.specs.Prelude.{◌≡◌};
+ghost use Rattle.std.specs.Prelude.{◌≡◌, refl};
+ghost use Rattle.day.specs.Minutes.{deadline_of, opens_at};
 ghost use Rattle.gates.specs.declared.gate.Gate.{Gate};
 ghost use Rattle.gates.specs.declared.gate.Gate.TheVariants.{First, Second};
 ghost use Rattle.requests.specs.declared.finding.Joining.{Joining};
@@ -57,6 +58,9 @@ pub trait BeforeGate {
     /// The gate that ends the stage.
     fn gate() -> Gate
         ensures { result ≡ gate };
+
+    /// Announcing ends when the gate opens.
+    ghost one_minute: { deadline_of joining ≡ opens_at gate };
 }
 
 impl BeforeGate for FirstStage {
@@ -69,6 +73,8 @@ impl BeforeGate for FirstStage {
     fn joining() -> Joining {
         Joining::Unresolved
     }
+
+    ghost one_minute = { refl };
 
     fn gate() -> Gate {
         Gate::First
@@ -85,6 +91,8 @@ impl BeforeGate for SecondStage {
     fn joining() -> Joining {
         Joining::NotBalanced
     }
+
+    ghost one_minute = { refl };
 
     fn gate() -> Gate {
         Gate::Second

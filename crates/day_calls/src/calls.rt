@@ -10,7 +10,7 @@ use requests::request::Status;
 use std::alloc::AllocError;
 
 /// A call of one day.
-#[derive(Clone, Copy)]
+#[derive(Clone, Copy, PartialEq, Eq, Debug)]
 pub enum DayCall<'a, Q> {
     Open { number: u8, quarters: u8 },
     /// An award at a price for each direction.
@@ -32,7 +32,7 @@ pub enum NotCalled {
 }
 
 /// What a call of a day answers where it is taken.
-#[derive(Clone, Copy)]
+#[derive(Clone, Copy, PartialEq, Eq, Debug)]
 pub enum Answer<Q> {
     Opened,
     Awarded,

@@ -29,7 +29,8 @@ pub fn gate_step<O: Book, L: Records<Record = Request<<O::Q as Quantity>::Row>>>
     ensures rest { ChangesHoldings O.Book.places O.Book.admission O.Book.layer_number obligations.old obligations.new }
     ensures room { L.Records.places requests.new ≡ L.Records.places requests.old }
 {
-    // Two arms: each stage goes on to, or back into, a variant of its own.
+    // Two arms of one shape: each stage goes on to, or back into, a variant of its own. A trait that names the two variants of a stage,
+    // with an impl for each, is longer than the second arm.
     match std::mem::replace(stage, Stage::Unopened) {
         Stage::Announcing(first) => match first.pass_gate(obligations, requests, minute) {
             Ok(next) => *stage = Stage::Reconciling(next),
