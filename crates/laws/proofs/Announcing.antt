@@ -24,7 +24,8 @@ use Rattle.requests.proofs.Places.{place_holds, passages_equal}
 use Rattle.gates.specs.Gates.{passing}
 use Rattle.day.specs.declared.stages.Day.{Day}
 use Rattle.day.specs.declared.announcing.Announcement.{Announcement}
-use Rattle.day.specs.Announcing.{no_provider, outline, outline_refusal, announce_refusal, announced_list}
+use Rattle.refusals.specs.Checks.{no_provider}
+use Rattle.day.specs.Announcing.{outline, outline_refusal, announce_refusal, announced_list}
 use Rattle.laws.specs.Sums.{sum_from}
 use Rattle.laws.specs.Volumes.{is_confirmed, from_giver, to_taker}
 use Rattle.laws.specs.Laws.{agreed, Matches}

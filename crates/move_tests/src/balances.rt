@@ -1,4 +1,5 @@
 use crate::cents::Cents;
+use crate::passages::passage;
 use book::interface::Book;
 use full_book::lent::FullBook;
 use quantity::interface::Quantity;
@@ -23,13 +24,13 @@ fn balances<B: Book<Q = Cents>>(rt: &impl Abort, book: &B, giver: i32, taker: i3
 // From nothing a move leaves a debt and a credit, each in a place of its own, and the move back frees them all.
 fn there_and_back<B: Book<Q = Cents>>(rt: &impl Abort, book: &mut B) {
     let free = book.free();
-    assert_eq!(rt; move_span(book, 0, 1, 0, 1, cents(5)), Ok(()));
+    assert_eq!(rt; move_span(book, passage(0, 1, 0, 1), cents(5)), Ok(()));
     balances(rt, book, -5, 5);
     assert_eq!(rt; free.saturating_sub(book.free()), 4);
-    assert_eq!(rt; move_span(book, 1, 0, 0, 1, cents(5)), Ok(()));
+    assert_eq!(rt; move_span(book, passage(1, 0, 0, 1), cents(5)), Ok(()));
     balances(rt, book, 0, 0);
     assert_eq!(rt; book.free(), free);
-    assert_eq!(rt; move_span(book, 0, 1, 0, 1, cents(-5)), Ok(()));
+    assert_eq!(rt; move_span(book, passage(0, 1, 0, 1), cents(-5)), Ok(()));
     balances(rt, book, 5, -5);
 }
 
@@ -47,7 +48,7 @@ fn a_debt_takes_a_place(rt: HostRuntime) {
     let mut slots: [Option<Record<i32>>; 3] = [None; 3];
     let mut book: SparseBook<Cents> = SparseBook::blank(&mut slots);
     assert_eq!(rt;
-        move_span(&mut book, 0, 1, 0, 1, cents(5)),
+        move_span(&mut book, passage(0, 1, 0, 1), cents(5)),
         Err(Refusal::NoFreePlace)
     );
     balances(&rt, &book, 0, 0);
@@ -70,17 +71,20 @@ fn only_the_bounds_refuse(rt: HostRuntime) {
     assert!(rt; Cents::of_cents(-1000001).is_none());
     assert_eq!(rt; Cents::of_row(-1000001).count(), 0);
     assert_eq!(rt; Cents::of_row(-1000000).count(), -1000000);
-    assert_eq!(rt; move_span(&mut book, 0, 1, 0, 1, cents(1000000)), Ok(()));
+    assert_eq!(rt;
+        move_span(&mut book, passage(0, 1, 0, 1), cents(1000000)),
+        Ok(())
+    );
     balances(&rt, &book, -1000000, 1000000);
     assert_eq!(rt;
-        move_span(&mut book, 0, 2, 0, 1, cents(1)),
+        move_span(&mut book, passage(0, 2, 0, 1), cents(1)),
         Err(Refusal::NoRemainder {
             provider: 0,
             quarter: 0,
         })
     );
     assert_eq!(rt;
-        move_span(&mut book, 2, 1, 0, 1, cents(1)),
+        move_span(&mut book, passage(2, 1, 0, 1), cents(1)),
         Err(Refusal::SumDoesNotFit {
             provider: 1,
             quarter: 0,

@@ -6,4 +6,6 @@
 mod balances;
 pub mod cents;
 #[cfg(test)]
+mod passages;
+#[cfg(test)]
 mod volumes;

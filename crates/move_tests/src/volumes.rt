@@ -1,3 +1,4 @@
+use crate::passages::passage;
 use book::answers::Cause;
 use book::interface::Book;
 use full_book::lent::FullBook;
@@ -38,12 +39,15 @@ fn sixteen_full_records_move_whole(rt: HostRuntime) {
     assert_eq!(rt; raise_span(&mut book, 0, 12, 27, tenths(100)), Ok(()));
     assert_eq!(rt; book.free(), 0);
     assert_eq!(rt;
-        move_span(&mut book, 0, 1, 12, 27, tenths(50)),
+        move_span(&mut book, passage(0, 1, 12, 27), tenths(50)),
         Err(Refusal::NoFreePlace)
     );
     holds(&rt, &book, 0, 12, 27, 100);
     holds(&rt, &book, 1, 12, 27, 0);
-    assert_eq!(rt; move_span(&mut book, 0, 1, 12, 27, tenths(100)), Ok(()));
+    assert_eq!(rt;
+        move_span(&mut book, passage(0, 1, 12, 27), tenths(100)),
+        Ok(())
+    );
     holds(&rt, &book, 0, 12, 27, 0);
     holds(&rt, &book, 1, 12, 27, 100);
     assert_eq!(rt; book.free(), 0);
@@ -55,7 +59,7 @@ fn last_quarter_lacks<B: Book<Q = Volume>>(rt: &impl Abort, book: &mut B) {
     assert_eq!(rt; raise_span(book, 5, 3, 3, tenths(10)), Ok(()));
     assert_eq!(rt; raise_span(book, 6, 0, 3, tenths(7)), Ok(()));
     assert_eq!(rt;
-        move_span(book, 5, 6, 0, 3, tenths(50)),
+        move_span(book, passage(5, 6, 0, 3), tenths(50)),
         Err(Refusal::NoRemainder {
             provider: 5,
             quarter: 3,
@@ -71,7 +75,7 @@ fn last_quarter_lacks<B: Book<Q = Volume>>(rt: &impl Abort, book: &mut B) {
     holds(rt, book, 5, 0, 2, 100);
     holds(rt, book, 5, 3, 3, 10);
     holds(rt, book, 6, 0, 3, 7);
-    assert_eq!(rt; move_span(book, 5, 6, 0, 2, tenths(50)), Ok(()));
+    assert_eq!(rt; move_span(book, passage(5, 6, 0, 2), tenths(50)), Ok(()));
     holds(rt, book, 5, 0, 2, 50);
     holds(rt, book, 6, 0, 2, 57);
     holds(rt, book, 6, 3, 3, 7);
@@ -97,7 +101,7 @@ fn fit_before_limit(rt: HostRuntime) {
     assert!(rt; limits.set(3, Direction::Up, 500).is_ok());
     let mut book = LimitLayer::new(below, limits);
     assert_eq!(rt;
-        move_span(&mut book, 2, 3, 0, 4, tenths(2000)),
+        move_span(&mut book, passage(2, 3, 0, 4), tenths(2000)),
         Err(Refusal::SumDoesNotFit {
             provider: 3,
             quarter: 4,
@@ -108,7 +112,7 @@ fn fit_before_limit(rt: HostRuntime) {
         direction: Direction::Up,
     };
     assert_eq!(rt;
-        move_span(&mut book, 2, 3, 1, 3, tenths(2000)),
+        move_span(&mut book, passage(2, 3, 1, 3), tenths(2000)),
         Err(Refusal::NotAdmitted {
             provider: 3,
             quarter: 1,
@@ -116,7 +120,7 @@ fn fit_before_limit(rt: HostRuntime) {
         })
     );
     assert_eq!(rt;
-        move_span(&mut book, 2, 3, 0, 4, tenths(4000)),
+        move_span(&mut book, passage(2, 3, 0, 4), tenths(4000)),
         Err(Refusal::NoRemainder {
             provider: 2,
             quarter: 0,
@@ -125,7 +129,10 @@ fn fit_before_limit(rt: HostRuntime) {
     holds(&rt, &book, 2, 0, 4, 3000);
     holds(&rt, &book, 3, 0, 3, 0);
     holds(&rt, &book, 3, 4, 4, 9000);
-    assert_eq!(rt; move_span(&mut book, 2, 3, 0, 3, tenths(500)), Ok(()));
+    assert_eq!(rt;
+        move_span(&mut book, passage(2, 3, 0, 3), tenths(500)),
+        Ok(())
+    );
     holds(&rt, &book, 2, 0, 3, 2500);
     holds(&rt, &book, 3, 0, 3, 500);
 }
@@ -136,27 +143,27 @@ fn order_of_the_others(rt: HostRuntime) {
     let mut rows = [0u16; 3200];
     let mut book: FullBook<Volume> = FullBook::blank(&mut rows);
     assert_eq!(rt;
-        move_span(&mut book, 32, 32, 5, 4, tenths(1)),
+        move_span(&mut book, passage(32, 32, 5, 4), tenths(1)),
         Err(Refusal::NoSuchProvider)
     );
     assert_eq!(rt;
-        move_span(&mut book, 0, 32, 0, 100, tenths(1)),
+        move_span(&mut book, passage(0, 32, 0, 100), tenths(1)),
         Err(Refusal::NoSuchProvider)
     );
     assert_eq!(rt;
-        move_span(&mut book, 1, 1, 5, 4, tenths(1)),
+        move_span(&mut book, passage(1, 1, 5, 4), tenths(1)),
         Err(Refusal::NoSuchSpan)
     );
     assert_eq!(rt;
-        move_span(&mut book, 1, 1, 0, 100, tenths(1)),
+        move_span(&mut book, passage(1, 1, 0, 100), tenths(1)),
         Err(Refusal::NoSuchSpan)
     );
     assert_eq!(rt;
-        move_span(&mut book, 1, 1, 0, 99, tenths(1)),
+        move_span(&mut book, passage(1, 1, 0, 99), tenths(1)),
         Err(Refusal::SameProvider)
     );
     assert_eq!(rt;
-        move_span(&mut book, 1, 2, 0, 99, tenths(1)),
+        move_span(&mut book, passage(1, 2, 0, 99), tenths(1)),
         Err(Refusal::NoRemainder {
             provider: 1,
             quarter: 0,
@@ -186,16 +193,22 @@ fn a_freed_place_serves_later(rt: HostRuntime) {
     assert_eq!(rt; raise_span(&mut book, 0, 0, 0, tenths(5)), Ok(()));
     assert_eq!(rt; raise_span(&mut book, 0, 1, 1, tenths(9)), Ok(()));
     assert_eq!(rt;
-        move_span(&mut book, 0, 1, 0, 1, tenths(5)),
+        move_span(&mut book, passage(0, 1, 0, 1), tenths(5)),
         Err(Refusal::NoFreePlace)
     );
     assert_eq!(rt; book.holding(0, 0).up(), 5);
     assert_eq!(rt; book.holding(0, 1).up(), 9);
     holds(&rt, &book, 1, 0, 1, 0);
-    assert_eq!(rt; move_span(&mut book, 0, 1, 0, 0, tenths(5)), Ok(()));
+    assert_eq!(rt;
+        move_span(&mut book, passage(0, 1, 0, 0), tenths(5)),
+        Ok(())
+    );
     assert_eq!(rt; lower_span(&mut book, 1, 0, 0, tenths(5)), Ok(()));
     assert_eq!(rt; book.free(), 1);
-    assert_eq!(rt; move_span(&mut book, 0, 2, 1, 1, tenths(4)), Ok(()));
+    assert_eq!(rt;
+        move_span(&mut book, passage(0, 2, 1, 1), tenths(4)),
+        Ok(())
+    );
     assert_eq!(rt; book.holding(0, 1).up(), 5);
     assert_eq!(rt; book.holding(2, 1).up(), 4);
     assert_eq!(rt; book.free(), 0);
