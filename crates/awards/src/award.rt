@@ -16,6 +16,7 @@ use crate::sheet::entering::MOST_AWARDS;
 use book::interface::Book;
 use quantity::interface::Quantity;
 use quantity::reserve::ReserveQuantity;
+use refusals::passage::ProviderSpan;
 use refusals::refusal::Refusal;
 use refusals::span::Provider;
 use span_moves::spans::raise_span;
@@ -72,9 +73,11 @@ where
     };
     raise_span(
         obligations,
-        award.provider,
-        block.first(),
-        block.last(),
+        ProviderSpan {
+            provider: award.provider,
+            first: block.first(),
+            last: block.last(),
+        },
         award.quantity,
     )?;
     let earned = award_earnings(award.quantity, prices, block.count());

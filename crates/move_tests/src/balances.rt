@@ -1,5 +1,5 @@
 use crate::cents::Cents;
-use crate::passages::passage;
+use crate::passages::{passage, span};
 use book::interface::Book;
 use full_book::lent::FullBook;
 use quantity::interface::Quantity;
@@ -54,10 +54,10 @@ fn a_debt_takes_a_place(rt: HostRuntime) {
     balances(&rt, &book, 0, 0);
     assert_eq!(rt; book.free(), 3);
     assert_eq!(rt;
-        lower_span(&mut book, 2, 0, 3, cents(1)),
+        lower_span(&mut book, span(2, 0, 3), cents(1)),
         Err(Refusal::NoFreePlace)
     );
-    assert_eq!(rt; lower_span(&mut book, 2, 0, 2, cents(1)), Ok(()));
+    assert_eq!(rt; lower_span(&mut book, span(2, 0, 2), cents(1)), Ok(()));
     assert_eq!(rt; book.holding(2, 2).count(), -1);
     assert_eq!(rt; book.free(), 0);
 }
@@ -90,7 +90,7 @@ fn only_the_bounds_refuse(rt: HostRuntime) {
             quarter: 0,
         })
     );
-    assert_eq!(rt; raise_span(&mut book, 1, 2, 2, cents(1)), Ok(()));
+    assert_eq!(rt; raise_span(&mut book, span(1, 2, 2), cents(1)), Ok(()));
     balances(&rt, &book, -1000000, 1000000);
     assert_eq!(rt; book.holding(2, 0).count(), 0);
 }

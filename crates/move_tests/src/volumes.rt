@@ -1,4 +1,4 @@
-use crate::passages::passage;
+use crate::passages::{passage, span};
 use book::answers::Cause;
 use book::interface::Book;
 use full_book::lent::FullBook;
@@ -36,7 +36,7 @@ fn holds<B: Book<Q = Volume>>(
 fn sixteen_full_records_move_whole(rt: HostRuntime) {
     let mut slots: [Option<Record<u16>>; 16] = [None; 16];
     let mut book: SparseBook<Volume> = SparseBook::blank(&mut slots);
-    assert_eq!(rt; raise_span(&mut book, 0, 12, 27, tenths(100)), Ok(()));
+    assert_eq!(rt; raise_span(&mut book, span(0, 12, 27), tenths(100)), Ok(()));
     assert_eq!(rt; book.free(), 0);
     assert_eq!(rt;
         move_span(&mut book, passage(0, 1, 12, 27), tenths(50)),
@@ -55,9 +55,9 @@ fn sixteen_full_records_move_whole(rt: HostRuntime) {
 
 // What the last quarter lacks keeps the quarters before it unchanged.
 fn last_quarter_lacks<B: Book<Q = Volume>>(rt: &impl Abort, book: &mut B) {
-    assert_eq!(rt; raise_span(book, 5, 0, 2, tenths(100)), Ok(()));
-    assert_eq!(rt; raise_span(book, 5, 3, 3, tenths(10)), Ok(()));
-    assert_eq!(rt; raise_span(book, 6, 0, 3, tenths(7)), Ok(()));
+    assert_eq!(rt; raise_span(book, span(5, 0, 2), tenths(100)), Ok(()));
+    assert_eq!(rt; raise_span(book, span(5, 3, 3), tenths(10)), Ok(()));
+    assert_eq!(rt; raise_span(book, span(6, 0, 3), tenths(7)), Ok(()));
     assert_eq!(rt;
         move_span(book, passage(5, 6, 0, 3), tenths(50)),
         Err(Refusal::NoRemainder {
@@ -66,7 +66,7 @@ fn last_quarter_lacks<B: Book<Q = Volume>>(rt: &impl Abort, book: &mut B) {
         })
     );
     assert_eq!(rt;
-        lower_span(book, 5, 0, 3, tenths(50)),
+        lower_span(book, span(5, 0, 3), tenths(50)),
         Err(Refusal::NoRemainder {
             provider: 5,
             quarter: 3,
@@ -94,8 +94,8 @@ fn a_last_quarter_that_lacks_volume(rt: HostRuntime) {
 fn fit_before_limit(rt: HostRuntime) {
     let mut rows = [0u16; 3200];
     let mut below: FullBook<Volume> = FullBook::blank(&mut rows);
-    assert_eq!(rt; raise_span(&mut below, 2, 0, 4, tenths(3000)), Ok(()));
-    assert_eq!(rt; raise_span(&mut below, 3, 4, 4, tenths(9000)), Ok(()));
+    assert_eq!(rt; raise_span(&mut below, span(2, 0, 4), tenths(3000)), Ok(()));
+    assert_eq!(rt; raise_span(&mut below, span(3, 4, 4), tenths(9000)), Ok(()));
     let mut limits = LimitTable::new();
     assert!(rt; limits.set(2, Direction::Up, 10000).is_ok());
     assert!(rt; limits.set(3, Direction::Up, 500).is_ok());
@@ -170,18 +170,18 @@ fn order_of_the_others(rt: HostRuntime) {
         })
     );
     assert_eq!(rt;
-        raise_span(&mut book, 32, 5, 4, tenths(1)),
+        raise_span(&mut book, span(32, 5, 4), tenths(1)),
         Err(Refusal::NoSuchProvider)
     );
     assert_eq!(rt;
-        raise_span(&mut book, 31, 5, 4, tenths(1)),
+        raise_span(&mut book, span(31, 5, 4), tenths(1)),
         Err(Refusal::NoSuchSpan)
     );
     assert_eq!(rt;
-        raise_span(&mut book, 31, 0, 100, tenths(1)),
+        raise_span(&mut book, span(31, 0, 100), tenths(1)),
         Err(Refusal::NoSuchSpan)
     );
-    assert_eq!(rt; raise_span(&mut book, 31, 0, 99, tenths(1)), Ok(()));
+    assert_eq!(rt; raise_span(&mut book, span(31, 0, 99), tenths(1)), Ok(()));
     holds(&rt, &book, 31, 0, 99, 1);
 }
 
@@ -190,8 +190,8 @@ fn order_of_the_others(rt: HostRuntime) {
 fn a_freed_place_serves_later(rt: HostRuntime) {
     let mut slots: [Option<Record<u16>>; 2] = [None; 2];
     let mut book: SparseBook<Volume> = SparseBook::blank(&mut slots);
-    assert_eq!(rt; raise_span(&mut book, 0, 0, 0, tenths(5)), Ok(()));
-    assert_eq!(rt; raise_span(&mut book, 0, 1, 1, tenths(9)), Ok(()));
+    assert_eq!(rt; raise_span(&mut book, span(0, 0, 0), tenths(5)), Ok(()));
+    assert_eq!(rt; raise_span(&mut book, span(0, 1, 1), tenths(9)), Ok(()));
     assert_eq!(rt;
         move_span(&mut book, passage(0, 1, 0, 1), tenths(5)),
         Err(Refusal::NoFreePlace)
@@ -203,7 +203,7 @@ fn a_freed_place_serves_later(rt: HostRuntime) {
         move_span(&mut book, passage(0, 1, 0, 0), tenths(5)),
         Ok(())
     );
-    assert_eq!(rt; lower_span(&mut book, 1, 0, 0, tenths(5)), Ok(()));
+    assert_eq!(rt; lower_span(&mut book, span(1, 0, 0), tenths(5)), Ok(()));
     assert_eq!(rt; book.free(), 1);
     assert_eq!(rt;
         move_span(&mut book, passage(0, 2, 1, 1), tenths(4)),

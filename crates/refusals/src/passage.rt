@@ -1,3 +1,11 @@
+/// A provider and a span of quarters, both ends included: as it is asked, before it is checked.
+#[derive(Clone, Copy, PartialEq, Eq, Debug)]
+pub struct ProviderSpan {
+    pub provider: u8,
+    pub first: u8,
+    pub last: u8,
+}
+
 /// Who passes volume to whom, and over which span of quarters, both ends included: as it is asked, before it is checked.
 #[derive(Clone, Copy, PartialEq, Eq, Debug)]
 pub struct Passage {

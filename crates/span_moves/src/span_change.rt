@@ -12,6 +12,7 @@ use crate::change::Change;
 use book::interface::Book;
 use book::range::Position;
 use quantity::interface::Quantity;
+use refusals::passage::ProviderSpan;
 use refusals::refusal::Refusal;
 use refusals::span::{Provider, Span};
 
@@ -25,20 +26,14 @@ pub struct SpanChange<Q> {
 }
 
 impl<Q: Quantity> SpanChange<Q> {
-    pub fn new(
-        change: Change,
-        provider: u8,
-        first: u8,
-        last: u8,
-        quantity: Q,
-    ) -> Result<SpanChange<Q>, Refusal>
-        ensures refusal { result_err result ≡ first_some (no_provider provider ∷ (no_span first last ∷ [])) }
-        ensures parts { IfOk result (λ x. (x.change ≡ change) × (x.provider.number ≡ provider) × (x.span.first ≡ first) × (x.span.last ≡ last) × (x.quantity ≡ quantity)) }
+    pub fn new(change: Change, asked: ProviderSpan, quantity: Q) -> Result<SpanChange<Q>, Refusal>
+        ensures refusal { result_err result ≡ first_some (no_provider asked.provider ∷ (no_span asked.first asked.last ∷ [])) }
+        ensures parts { IfOk result (λ x. (x.change ≡ change) × (x.provider.number ≡ asked.provider) × (x.span.first ≡ asked.first) × (x.span.last ≡ asked.last) × (x.quantity ≡ quantity)) }
     {
         Ok(SpanChange {
             change,
-            provider: Provider::try_from(provider)?,
-            span: Span::new(first, last)?,
+            provider: Provider::try_from(asked.provider)?,
+            span: Span::new(asked.first, asked.last)?,
             quantity,
         })
     }

@@ -11,24 +11,22 @@ use crate::change::Change;
 use crate::span_change::SpanChange;
 use crate::span_move::SpanMove;
 use book::interface::Book;
-use refusals::passage::Passage;
+use refusals::passage::{Passage, ProviderSpan};
 use refusals::refusal::Refusal;
 
 // Changes every holding of a span, or changes nothing and says why.
 fn change_span<B: Book>(
     book: &mut B,
     change: Change,
-    provider: u8,
-    first: u8,
-    last: u8,
+    span: ProviderSpan,
     quantity: B::Q,
 ) -> Result<(), Refusal>
-    ensures answer { answer_number (result_err result) ≡ answer_number (span_refusal B.Q.Quantity.measure (B.Book.holdings book.old) (B.Book.places book.old) (B.Book.admission book.old) change provider first last quantity) }
-    ensures alike { Alike B.Q.Quantity.measure (B.Book.holdings book.old) quantity (λ other q. span_refusal B.Q.Quantity.measure other (B.Book.places book.old) (B.Book.admission book.old) change provider first last q) (result_err result) }
-    ensures after { amounts B.Q.Quantity.measure (B.Book.holdings book.new) ≡ span_after B.Q.Quantity.measure (B.Book.holdings book.old) (B.Book.places book.old) (B.Book.admission book.old) change provider first last quantity }
+    ensures answer { answer_number (result_err result) ≡ answer_number (span_refusal B.Q.Quantity.measure (B.Book.holdings book.old) (B.Book.places book.old) (B.Book.admission book.old) change span.provider span.first span.last quantity) }
+    ensures alike { Alike B.Q.Quantity.measure (B.Book.holdings book.old) quantity (λ other q. span_refusal B.Q.Quantity.measure other (B.Book.places book.old) (B.Book.admission book.old) change span.provider span.first span.last q) (result_err result) }
+    ensures after { amounts B.Q.Quantity.measure (B.Book.holdings book.new) ≡ span_after B.Q.Quantity.measure (B.Book.holdings book.old) (B.Book.places book.old) (B.Book.admission book.old) change span.provider span.first span.last quantity }
     ensures rest { ChangesHoldings B.Book.places B.Book.admission B.Book.layer_number book.old book.new }
 {
-    let planned = SpanChange::new(change, provider, first, last, quantity)?;
+    let planned = SpanChange::new(change, span, quantity)?;
     planned.check(book)?;
     planned.apply(book);
     Ok(())
@@ -37,35 +35,23 @@ fn change_span<B: Book>(
 // Two public calls and not one with a `Change`: so the calls of a span are named and given.
 
 /// Raises every holding of a span by the quantity, or changes nothing and says why.
-pub fn raise_span<B: Book>(
-    book: &mut B,
-    provider: u8,
-    first: u8,
-    last: u8,
-    quantity: B::Q,
-) -> Result<(), Refusal>
-    ensures answer { answer_number (result_err result) ≡ answer_number (span_refusal B.Q.Quantity.measure (B.Book.holdings book.old) (B.Book.places book.old) (B.Book.admission book.old) Raising provider first last quantity) }
-    ensures alike { Alike B.Q.Quantity.measure (B.Book.holdings book.old) quantity (λ other q. span_refusal B.Q.Quantity.measure other (B.Book.places book.old) (B.Book.admission book.old) Raising provider first last q) (result_err result) }
-    ensures after { amounts B.Q.Quantity.measure (B.Book.holdings book.new) ≡ span_after B.Q.Quantity.measure (B.Book.holdings book.old) (B.Book.places book.old) (B.Book.admission book.old) Raising provider first last quantity }
+pub fn raise_span<B: Book>(book: &mut B, span: ProviderSpan, quantity: B::Q) -> Result<(), Refusal>
+    ensures answer { answer_number (result_err result) ≡ answer_number (span_refusal B.Q.Quantity.measure (B.Book.holdings book.old) (B.Book.places book.old) (B.Book.admission book.old) Raising span.provider span.first span.last quantity) }
+    ensures alike { Alike B.Q.Quantity.measure (B.Book.holdings book.old) quantity (λ other q. span_refusal B.Q.Quantity.measure other (B.Book.places book.old) (B.Book.admission book.old) Raising span.provider span.first span.last q) (result_err result) }
+    ensures after { amounts B.Q.Quantity.measure (B.Book.holdings book.new) ≡ span_after B.Q.Quantity.measure (B.Book.holdings book.old) (B.Book.places book.old) (B.Book.admission book.old) Raising span.provider span.first span.last quantity }
     ensures rest { ChangesHoldings B.Book.places B.Book.admission B.Book.layer_number book.old book.new }
 {
-    change_span(book, Change::Raising, provider, first, last, quantity)
+    change_span(book, Change::Raising, span, quantity)
 }
 
 /// Lowers every holding of a span by the quantity, or changes nothing and says why.
-pub fn lower_span<B: Book>(
-    book: &mut B,
-    provider: u8,
-    first: u8,
-    last: u8,
-    quantity: B::Q,
-) -> Result<(), Refusal>
-    ensures answer { answer_number (result_err result) ≡ answer_number (span_refusal B.Q.Quantity.measure (B.Book.holdings book.old) (B.Book.places book.old) (B.Book.admission book.old) Lowering provider first last quantity) }
-    ensures alike { Alike B.Q.Quantity.measure (B.Book.holdings book.old) quantity (λ other q. span_refusal B.Q.Quantity.measure other (B.Book.places book.old) (B.Book.admission book.old) Lowering provider first last q) (result_err result) }
-    ensures after { amounts B.Q.Quantity.measure (B.Book.holdings book.new) ≡ span_after B.Q.Quantity.measure (B.Book.holdings book.old) (B.Book.places book.old) (B.Book.admission book.old) Lowering provider first last quantity }
+pub fn lower_span<B: Book>(book: &mut B, span: ProviderSpan, quantity: B::Q) -> Result<(), Refusal>
+    ensures answer { answer_number (result_err result) ≡ answer_number (span_refusal B.Q.Quantity.measure (B.Book.holdings book.old) (B.Book.places book.old) (B.Book.admission book.old) Lowering span.provider span.first span.last quantity) }
+    ensures alike { Alike B.Q.Quantity.measure (B.Book.holdings book.old) quantity (λ other q. span_refusal B.Q.Quantity.measure other (B.Book.places book.old) (B.Book.admission book.old) Lowering span.provider span.first span.last q) (result_err result) }
+    ensures after { amounts B.Q.Quantity.measure (B.Book.holdings book.new) ≡ span_after B.Q.Quantity.measure (B.Book.holdings book.old) (B.Book.places book.old) (B.Book.admission book.old) Lowering span.provider span.first span.last quantity }
     ensures rest { ChangesHoldings B.Book.places B.Book.admission B.Book.layer_number book.old book.new }
 {
-    change_span(book, Change::Lowering, provider, first, last, quantity)
+    change_span(book, Change::Lowering, span, quantity)
 }
 
 /// Moves the quantity from the giver to the taker in every quarter of a span, or changes nothing and says why.
