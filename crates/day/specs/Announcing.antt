@@ -9,7 +9,7 @@ use Rattle.requests.specs.declared.request.Request.{Request}
 use Rattle.requests.specs.declared.finding.Joining.{Joining}
 use Rattle.requests.specs.Announcing.{announcement_refusal, announcement_list}
 use Rattle.day.specs.declared.stages.Day.{Day}
-use Rattle.day.specs.declared.announcing.Announcement.{Announcement}
+use Rattle.requests.specs.declared.announcement.Announcement.{Announcement}
 use Rattle.day.specs.Minutes.{deadline_of}
 
 -- a span backwards or past the day

@@ -7,20 +7,11 @@ use crate::minutes::gate_opens;
 use crate::stages::{BeforeGate, InStage};
 use quantity::interface::Quantity;
 use record_list::interface::Records;
-use refusals::passage::Passage;
 use refusals::refusal::Refusal;
 use refusals::span::Provider;
+use requests::announcement::Announcement;
 use requests::announcing::put_announcement;
-use requests::request::{Request, Side};
-
-/// What a side says of a request: how much passes from whom to whom over which quarters, and when it is said.
-#[derive(Clone, Copy, PartialEq, Eq, Debug)]
-pub struct Announcement<Q> {
-    pub side: Side,
-    pub passage: Passage,
-    pub quantity: Q,
-    pub minute: i32,
-}
+use requests::request::Request;
 
 impl<S: BeforeGate> InStage<S> {
     // What is wrong with an announcement before the list is looked at.
@@ -63,14 +54,8 @@ impl<S: BeforeGate> InStage<S> {
         ensures day { self.new.day ≡ announced_day self.old.day said (result_err result) }
     {
         self.check_outline(said)?;
-        let Announcement {
-            side,
-            passage,
-            quantity,
-            minute,
-        } = said;
-        let place = put_announcement(requests, S::joining(), side, passage, quantity)?;
-        self.day.minute = minute;
+        let place = put_announcement(requests, S::joining(), said)?;
+        self.day.minute = said.minute;
         Ok(place)
     }
 }

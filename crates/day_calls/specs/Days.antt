@@ -19,7 +19,7 @@ use Rattle.gates.specs.declared.gate.Gate.{Gate}
 use Rattle.gates.specs.declared.gate.Gate.TheVariants.{First, Second}
 use Rattle.gates.specs.Gates.{after_moves, gated}
 use Rattle.day.specs.declared.stages.Day.{Day}
-use Rattle.day.specs.declared.announcing.Announcement.{Announcement}
+use Rattle.requests.specs.declared.announcement.Announcement.{Announcement}
 use Rattle.day.specs.Announcing.{at_minute, announce_refusal, announced_list, announced_day}
 use Rattle.day.specs.Opening.{opening_refusal, opened_day}
 use Rattle.day.specs.Questions.{question_refusal, lacking, status_refusal, status_of}

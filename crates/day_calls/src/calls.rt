@@ -3,9 +3,9 @@ ghost use Rattle.day_calls.specs.declared.calls.NotCalled.TheVariants.{NoMemory}
 ghost use Rattle.day_calls.specs.declared.calls.NotDone.TheVariants.{Refused, NotCalled as NotMade};
 
 use awards::awarded::Award;
-use day::announcing::Announcement;
 use day::questions::Missing;
 use refusals::refusal::Refusal;
+use requests::announcement::Announcement;
 use requests::request::Status;
 use std::alloc::AllocError;
 

@@ -4,11 +4,11 @@ ghost use Rattle.day.specs.Announcing.{announce_refusal, announced_list, announc
 ghost use Rattle.day_calls.specs.Answers.{said as saying, numbered, unless, not_in_stage};
 ghost use Rattle.day_calls.specs.Days.{before_gate, joining_before, same_stage};
 
-use day::announcing::Announcement;
 use day_calls::calls::{Answer, NotCalled, NotDone};
 use day_calls::desk::Stage;
 use quantity::interface::Quantity;
 use record_list::interface::Records;
+use requests::announcement::Announcement;
 use requests::request::Request;
 
 /// Takes an announcement in the first or the second stage.

@@ -15,7 +15,7 @@ use Rattle.awards.specs.Blocks.{first_of_block, last_of_block, count_of_block}
 use Rattle.awards.specs.Awards.{award_earns}
 use Rattle.gates.specs.declared.gate.Gate.TheVariants.{First}
 use Rattle.gates.specs.Gates.{after_moves, gated}
-use Rattle.day.specs.declared.announcing.Announcement.{Announcement}
+use Rattle.requests.specs.declared.announcement.Announcement.{Announcement}
 use Rattle.day.specs.Announcing.{announce_refusal}
 use Rattle.day.specs.Opening.{opened_day}
 

@@ -23,7 +23,7 @@ use Rattle.requests.specs.Announcing.{changed_of, changed_at, unspoken, has_plac
 use Rattle.requests.proofs.Places.{place_holds, passages_equal}
 use Rattle.gates.specs.Gates.{passing}
 use Rattle.day.specs.declared.stages.Day.{Day}
-use Rattle.day.specs.declared.announcing.Announcement.{Announcement}
+use Rattle.requests.specs.declared.announcement.Announcement.{Announcement}
 use Rattle.refusals.specs.Checks.{no_provider}
 use Rattle.day.specs.Announcing.{outline, outline_refusal, announce_refusal, announced_list}
 use Rattle.laws.specs.Sums.{sum_from}

@@ -15,7 +15,7 @@ use Rattle.requests.specs.declared.request.Request.{Request}
 use Rattle.gates.specs.declared.gate.Gate.{Gate}
 use Rattle.gates.specs.declared.gate.Gate.TheVariants.{First, Second}
 use Rattle.gates.specs.Gates.{passing, given_status, has_balance, judged, cause, settled, passed_on, after_moves, gated}
-use Rattle.day.specs.declared.announcing.Announcement.{Announcement}
+use Rattle.requests.specs.declared.announcement.Announcement.{Announcement}
 use Rattle.laws.specs.Sums.{sum_from}
 use Rattle.laws.specs.Volumes.{is_confirmed, from_giver, to_taker}
 use Rattle.laws.specs.Laws.{agreed, Founded}

@@ -18,7 +18,7 @@ use Rattle.gates.specs.declared.gate.Gate.{Gate}
 use Rattle.gates.specs.declared.gate.Gate.TheVariants.{First, Second}
 use Rattle.gates.specs.Gates.{after_moves, gated}
 use Rattle.day.specs.declared.stages.Day.{Day}
-use Rattle.day.specs.declared.announcing.Announcement.{Announcement}
+use Rattle.requests.specs.declared.announcement.Announcement.{Announcement}
 use Rattle.day.specs.Announcing.{at_minute, announced_list, announced_day}
 use Rattle.day.specs.Opening.{day_length, opened_day}
 use Rattle.day.specs.Questions.{question_refusal, status_refusal, status_of}

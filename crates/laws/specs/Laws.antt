@@ -8,7 +8,7 @@ use Rattle.requests.specs.declared.request.Status.TheVariants.{WaitingForCounter
 use Rattle.requests.specs.declared.request.Request.{Request}
 use Rattle.gates.specs.Gates.{passing}
 use Rattle.day.specs.declared.stages.Day.{Day}
-use Rattle.day.specs.declared.announcing.Announcement.{Announcement}
+use Rattle.requests.specs.declared.announcement.Announcement.{Announcement}
 use Rattle.day.specs.Opening.{day_length}
 use Rattle.day_calls.specs.declared.calls.DayCall.{DayCall}
 use Rattle.day_calls.specs.declared.desk.Stage.{Stage}

@@ -7,7 +7,7 @@ use Rattle.awards.specs.Awards.{award_earns}
 use Rattle.requests.specs.declared.request.Status.{Status}
 use Rattle.requests.specs.declared.request.Status.TheVariants.{WaitingForCounterpart, BalanceOk, BalanceError, Confirmed, Rejected, Waiting, Accepted, Declined, Lapsed}
 use Rattle.requests.specs.declared.request.Request.{Request}
-use Rattle.day.specs.declared.announcing.Announcement.{Announcement}
+use Rattle.requests.specs.declared.announcement.Announcement.{Announcement}
 use Rattle.day_calls.specs.declared.calls.DayCall.{DayCall}
 use Rattle.day_calls.specs.declared.calls.DayCall.TheVariants.{Open, Award, Announce, Gate, Holding, Missing, Status as StatusCall}
 use Rattle.day_calls.specs.declared.calls.Answer.TheVariants.{Opened, Awarded, Placed, GatePassed, Held, Lacking, Standing}

@@ -3,12 +3,12 @@ ghost use Rattle.std.specs.Result.{result_err};
 ghost use Rattle.requests.specs.Requests.{spoken};
 ghost use Rattle.requests.specs.Announcing.{changed_at, unspoken, addition_refusal, added, announcement_refusal, announcement_place, announcement_list};
 
+use crate::announcement::Announcement;
 use crate::finding::{Joining, find_request};
 use crate::request::{Request, Side, Status};
 use crate::words::announced;
 use quantity::interface::Quantity;
 use record_list::interface::Records;
-use refusals::passage::Passage;
 use refusals::refusal::Refusal;
 
 /// The most requests that a day has.
@@ -51,29 +51,27 @@ fn add_request<R: Copy, L: Records<Record = Request<R>>>(
 pub fn put_announcement<Q: Quantity, L: Records<Record = Request<Q::Row>>>(
     list: &mut L,
     joining: Joining,
-    side: Side,
-    passage: Passage,
-    quantity: Q,
+    said: Announcement<Q>,
 ) -> Result<usize, Refusal>
-    ensures answer { result_err result ≡ announcement_refusal joining (L.Records.contents list.old) (L.Records.places list.old) passage }
-    ensures place { IfOk result (λ p. p ≡ announcement_place joining (L.Records.contents list.old) passage) }
-    ensures contents { L.Records.contents list.new ≡ announcement_list Q.Quantity.measure joining (L.Records.contents list.old) (L.Records.places list.old) side passage quantity }
+    ensures answer { result_err result ≡ announcement_refusal joining (L.Records.contents list.old) (L.Records.places list.old) said.passage }
+    ensures place { IfOk result (λ p. p ≡ announcement_place joining (L.Records.contents list.old) said.passage) }
+    ensures contents { L.Records.contents list.new ≡ announcement_list Q.Quantity.measure joining (L.Records.contents list.old) (L.Records.places list.old) said.side said.passage said.quantity }
     ensures places { L.Records.places list.new ≡ L.Records.places list.old }
 {
-    if let Some(place) = find_request(list, joining, passage) {
-        join_request(list, place, side, quantity);
+    if let Some(place) = find_request(list, joining, said.passage) {
+        join_request(list, place, said.side, said.quantity);
         return Ok(place);
     }
     match joining {
         Joining::NotBalanced => Err(Refusal::NoRequestToChange),
         Joining::Unresolved => {
             let unspoken = Request {
-                passage,
+                passage: said.passage,
                 giving: None,
                 taking: None,
                 status: Status::WaitingForCounterpart,
             };
-            add_request(list, announced(unspoken, side, quantity))
+            add_request(list, announced(unspoken, said.side, said.quantity))
         }
     }
 }

@@ -1,5 +1,6 @@
 #![tactic(auto)]
 
+pub mod announcement;
 pub mod announcing;
 pub mod finding;
 pub mod request;
