@@ -12,6 +12,13 @@ use quantity::interface::Quantity;
 use record_list::interface::Records;
 use refusals::refusal::Refusal;
 
+/// What a day is opened as: its number, and how many quarters it has.
+#[derive(Clone, Copy, PartialEq, Eq, Debug)]
+pub struct NewDay {
+    pub number: u8,
+    pub quarters: u8,
+}
+
 // Whether no book holds anything and no place of the list is used.
 fn nothing_held<O: Book, B: Book<Q = O::Q>, L: Records>(
     obligations: &O,
@@ -26,17 +33,17 @@ fn nothing_held<O: Book, B: Book<Q = O::Q>, L: Records>(
 impl Announcing {
     /// Opens a day over two books and a list that are empty, and blanks the sheet; or leaves the sheet and says why not.
     pub fn open<O: Book, B: Book<Q = O::Q>, L: Records>(
-        number: u8,
-        quarters: u8,
+        new: NewDay,
         obligations: &O,
         bids: &B,
         requests: &L,
         sheet: &mut Sheet,
     ) -> Result<Announcing, Refusal>
-        ensures answer { result_err result ≡ opening_refusal O.Q.Quantity.measure number quarters (O.Book.holdings obligations.now) (B.Book.holdings bids.now) (L.Records.contents requests.now) }
-        ensures day { IfOk result (λ s. s.day ≡ opened_day number quarters) }
+        ensures answer { result_err result ≡ opening_refusal O.Q.Quantity.measure new.number new.quarters (O.Book.holdings obligations.now) (B.Book.holdings bids.now) (L.Records.contents requests.now) }
+        ensures day { IfOk result (λ s. s.day ≡ opened_day new.number new.quarters) }
         ensures sheet { view sheet.new ≡ unless_refused (result_err result) blank_view (view sheet.old) }
     {
+        let NewDay { number, quarters } = new;
         if !matches!(quarters, 92 | 96 | 100) {
             return Err(Refusal::NoSuchDayLength);
         }

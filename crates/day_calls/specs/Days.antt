@@ -19,6 +19,7 @@ use Rattle.gates.specs.declared.gate.Gate.{Gate}
 use Rattle.gates.specs.declared.gate.Gate.TheVariants.{First, Second}
 use Rattle.gates.specs.Gates.{after_moves, gated}
 use Rattle.day.specs.declared.stages.Day.{Day}
+use Rattle.day.specs.declared.opening.NewDay.{NewDay}
 use Rattle.requests.specs.declared.announcement.Announcement.{Announcement}
 use Rattle.day.specs.Announcing.{at_minute, announce_refusal, announced_list, announced_day}
 use Rattle.day.specs.Opening.{opening_refusal, opened_day}
@@ -87,8 +88,8 @@ state_of held places admission bids contents room d = record { stage = d.stage; 
 
 module _ {Q R : Type 0} (m : Measure Q R) (tenths : Q → ℕ → ℕ) (directions : ℕ) (s : DayState Q R) where
   -- the refusals of the calls that can change a day
-  abbrev pub open_refused : ℕ → ℕ → Option Refusal
-  open_refused number quarters = opening_refusal m number quarters s.held s.bids s.requests
+  abbrev pub open_refused : NewDay → Option Refusal
+  open_refused new = opening_refusal m new.number new.quarters s.held s.bids s.requests
 
   abbrev pub award_refused : Day → Award Q → List ℕ → Option Refusal
   award_refused day a prices = award_refusal m s.held s.places s.admission directions day.quarters s.sheet.awards a.provider a.block a.quantity prices
@@ -102,7 +103,7 @@ module _ {Q R : Type 0} (m : Measure Q R) (tenths : Q → ℕ → ℕ) (directio
 
   -- what a call answers
   unfoldable pub answered : DayCall Q → Said Q
-  answered (Open number quarters) = if_unopened s.stage (unless (open_refused number quarters) (numbered (0 ∷ (1 ∷ [])))) not_in_stage
+  answered (Open new) = if_unopened s.stage (unless (open_refused new) (numbered (0 ∷ (1 ∷ [])))) not_in_stage
   answered (AwardCall a prices) = in_first s.stage (λ day. unless (award_refused day a prices.now) (numbered (0 ∷ (2 ∷ [])))) not_in_stage
   answered (Announce a) =
       before_gate s.stage (λ gate day. unless (announce_refused gate day a) (numbered (0 ∷ (3 ∷ (announcement_place (joining_before gate) s.requests a.passage ∷ []))))) not_in_stage
@@ -113,7 +114,7 @@ module _ {Q R : Type 0} (m : Measure Q R) (tenths : Q → ℕ → ℕ) (directio
 
   -- the stage after a call
   unfoldable pub stage_after : DayCall Q → Stage
-  stage_after (Open number quarters) = if_unopened s.stage (unless_refused (open_refused number quarters) (same_stage First (opened_day number quarters)) s.stage) s.stage
+  stage_after (Open new) = if_unopened s.stage (unless_refused (open_refused new) (same_stage First (opened_day new.number new.quarters)) s.stage) s.stage
   stage_after (AwardCall a prices) = s.stage
   stage_after (Announce a) = before_gate s.stage (λ gate day. same_stage gate (announced_day day a (announce_refused gate day a))) s.stage
   stage_after (GateCall minute) = before_gate s.stage (λ gate day. unless_refused (gate_refusal gate day minute) (next_stage gate (at_minute day minute)) s.stage) s.stage
@@ -123,7 +124,7 @@ module _ {Q R : Type 0} (m : Measure Q R) (tenths : Q → ℕ → ℕ) (directio
 
   -- the amounts of the obligations after a call
   unfoldable pub held_after : DayCall Q → Grid m.Amount
-  held_after (Open number quarters) = amounts m s.held
+  held_after (Open new) = amounts m s.held
   held_after (AwardCall a prices) =
       in_first s.stage (λ day. award_after m s.held s.places s.admission directions day.quarters s.sheet.awards a.provider a.block a.quantity prices.now) (amounts m s.held)
   held_after (Announce a) = amounts m s.held
@@ -134,7 +135,7 @@ module _ {Q R : Type 0} (m : Measure Q R) (tenths : Q → ℕ → ℕ) (directio
 
   -- the requests after a call
   unfoldable pub requests_after : DayCall Q → List (Request R)
-  requests_after (Open number quarters) = s.requests
+  requests_after (Open new) = s.requests
   requests_after (AwardCall a prices) = s.requests
   requests_after (Announce a) = before_gate s.stage (λ gate day. announced_list m day (joining_before gate) a s.requests s.room) s.requests
   requests_after (GateCall minute) = before_gate s.stage (λ gate day. unless_refused (gate_refusal gate day minute) (gated m s.places s.admission gate s.held s.requests) s.requests) s.requests
@@ -144,7 +145,7 @@ module _ {Q R : Type 0} (m : Measure Q R) (tenths : Q → ℕ → ℕ) (directio
 
   -- the sheet after a call
   unfoldable pub sheet_after : DayCall Q → SheetView
-  sheet_after (Open number quarters) = if_unopened s.stage (unless_refused (open_refused number quarters) blank_view s.sheet) s.sheet
+  sheet_after (Open new) = if_unopened s.stage (unless_refused (open_refused new) blank_view s.sheet) s.sheet
   sheet_after (AwardCall a prices) =
       in_first s.stage (λ day. award_sheet m s.held s.places s.admission tenths directions day.quarters a.provider a.block a.quantity prices.now s.sheet) s.sheet
   sheet_after (Announce a) = s.sheet

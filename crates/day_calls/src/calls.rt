@@ -3,6 +3,7 @@ ghost use Rattle.day_calls.specs.declared.calls.NotCalled.TheVariants.{NoMemory}
 ghost use Rattle.day_calls.specs.declared.calls.NotDone.TheVariants.{Refused, NotCalled as NotMade};
 
 use awards::awarded::Award;
+use day::opening::NewDay;
 use day::questions::Missing;
 use refusals::refusal::Refusal;
 use requests::announcement::Announcement;
@@ -12,7 +13,7 @@ use std::alloc::AllocError;
 /// A call of one day.
 #[derive(Clone, Copy, PartialEq, Eq, Debug)]
 pub enum DayCall<'a, Q> {
-    Open { number: u8, quarters: u8 },
+    Open(NewDay),
     /// An award at a price for each direction.
     Award { award: Award<Q>, prices: &'a [u32] },
     Announce(Announcement<Q>),

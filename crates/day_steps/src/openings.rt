@@ -12,6 +12,7 @@ ghost use Rattle.day_calls.specs.Days.{if_unopened, in_first, same_stage};
 use awards::awarded::Award;
 use awards::sheet::Sheet;
 use book::interface::Book;
+use day::opening::NewDay;
 use day::stages::Announcing;
 use day_calls::calls::{Answer, NotCalled, NotDone};
 use day_calls::desk::Stage;
@@ -26,17 +27,16 @@ pub fn open_step<O: Book, B: Book<Q = O::Q>, L: Records>(
     bids: &B,
     requests: &L,
     sheet: &mut Sheet,
-    number: u8,
-    quarters: u8,
+    new: NewDay,
 ) -> Result<Answer<O::Q>, NotDone>
-    ensures answer { said result ≡ if_unopened stage.old (unless (opening_refusal O.Q.Quantity.measure number quarters (O.Book.holdings obligations.now) (B.Book.holdings bids.now) (L.Records.contents requests.now)) (numbered (0 ∷ (1 ∷ [])))) not_in_stage }
-    ensures stage { stage.new ≡ if_unopened stage.old (unless_refused (opening_refusal O.Q.Quantity.measure number quarters (O.Book.holdings obligations.now) (B.Book.holdings bids.now) (L.Records.contents requests.now)) (same_stage First (opened_day number quarters)) stage.old) stage.old }
-    ensures sheet { view sheet.new ≡ if_unopened stage.old (unless_refused (opening_refusal O.Q.Quantity.measure number quarters (O.Book.holdings obligations.now) (B.Book.holdings bids.now) (L.Records.contents requests.now)) blank_view (view sheet.old)) (view sheet.old) }
+    ensures answer { said result ≡ if_unopened stage.old (unless (opening_refusal O.Q.Quantity.measure new.number new.quarters (O.Book.holdings obligations.now) (B.Book.holdings bids.now) (L.Records.contents requests.now)) (numbered (0 ∷ (1 ∷ [])))) not_in_stage }
+    ensures stage { stage.new ≡ if_unopened stage.old (unless_refused (opening_refusal O.Q.Quantity.measure new.number new.quarters (O.Book.holdings obligations.now) (B.Book.holdings bids.now) (L.Records.contents requests.now)) (same_stage First (opened_day new.number new.quarters)) stage.old) stage.old }
+    ensures sheet { view sheet.new ≡ if_unopened stage.old (unless_refused (opening_refusal O.Q.Quantity.measure new.number new.quarters (O.Book.holdings obligations.now) (B.Book.holdings bids.now) (L.Records.contents requests.now)) blank_view (view sheet.old)) (view sheet.old) }
 {
     let Stage::Unopened = stage else {
         return Err(NotCalled::NotInThisStage.into());
     };
-    let opened = Announcing::open(number, quarters, obligations, bids, requests, sheet)?;
+    let opened = Announcing::open(new, obligations, bids, requests, sheet)?;
     *stage = Stage::Announcing(opened);
     Ok(Answer::Opened)
 }
