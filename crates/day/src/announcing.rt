@@ -1,5 +1,6 @@
 ghost use Rattle.std.specs.Prelude.{◌≡◌, IfOk};
 ghost use Rattle.std.specs.Result.{result_err};
+ghost use Rattle.record_list.specs.Lists.{ListBecomes};
 ghost use Rattle.requests.specs.Announcing.{announcement_place};
 ghost use Rattle.day.specs.Announcing.{outline_refusal, announce_refusal, announced_list, announced_day};
 
@@ -49,8 +50,7 @@ impl<S: BeforeGate> InStage<S> {
     ) -> Result<usize, Refusal>
         ensures answer { result_err result ≡ announce_refusal Q.Quantity.measure self.old.day S.joining said (L.Records.contents requests.old) (L.Records.places requests.old) }
         ensures place { IfOk result (λ p. p ≡ announcement_place S.joining (L.Records.contents requests.old) said.passage) }
-        ensures contents { L.Records.contents requests.new ≡ announced_list Q.Quantity.measure self.old.day S.joining said (L.Records.contents requests.old) (L.Records.places requests.old) }
-        ensures places { L.Records.places requests.new ≡ L.Records.places requests.old }
+        ensures list { ListBecomes L.Records.contents L.Records.places requests.old requests.new (announced_list Q.Quantity.measure self.old.day S.joining said (L.Records.contents requests.old) (L.Records.places requests.old)) }
         ensures day { self.new.day ≡ announced_day self.old.day said (result_err result) }
     {
         self.check_outline(said)?;

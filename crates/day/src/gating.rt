@@ -3,6 +3,7 @@ ghost use Rattle.std.specs.Result.{result_err};
 ghost use Rattle.book.specs.Grid.{amounts};
 ghost use Rattle.book.specs.Rest.{ChangesHoldings};
 ghost use Rattle.refusals.specs.First.{unless_refused};
+ghost use Rattle.record_list.specs.Lists.{ListBecomes};
 ghost use Rattle.gates.specs.Gates.{after_moves, gated, Judged};
 ghost use Rattle.day.specs.Announcing.{at_minute};
 ghost use Rattle.day.specs.Gating.{gate_refusal, refusal_in};
@@ -41,11 +42,10 @@ impl<S: BeforeGate> InStage<S> {
     ) -> Result<InStage<S::Next>, (InStage<S>, Refusal)>
         ensures answer { refusal_in result ≡ gate_refusal S.gate self.day minute }
         ensures day { MatchResult result (λ next. next.day ≡ at_minute self.day minute) (λ back. back.0.day ≡ self.day) }
-        ensures requests { (L.Records.contents requests.new) ≡ unless_refused (gate_refusal S.gate self.day minute) (gated O.Q.Quantity.measure (O.Book.places obligations.old) (O.Book.admission obligations.old) S.gate (O.Book.holdings obligations.old) (L.Records.contents requests.old)) (L.Records.contents requests.old) }
+        ensures requests { ListBecomes L.Records.contents L.Records.places requests.old requests.new (unless_refused (gate_refusal S.gate self.day minute) (gated O.Q.Quantity.measure (O.Book.places obligations.old) (O.Book.admission obligations.old) S.gate (O.Book.holdings obligations.old) (L.Records.contents requests.old)) (L.Records.contents requests.old)) }
         ensures after { amounts O.Q.Quantity.measure (O.Book.holdings obligations.new) ≡ unless_refused (gate_refusal S.gate self.day minute) (amounts O.Q.Quantity.measure (after_moves O.Q.Quantity.measure (O.Book.places obligations.old) (O.Book.admission obligations.old) (O.Book.holdings obligations.old) (L.Records.contents requests.old))) (amounts O.Q.Quantity.measure (O.Book.holdings obligations.old)) }
         ensures judged { OnOk result (Judged O.Q.Quantity.measure (O.Book.places obligations.old) (O.Book.admission obligations.old) S.gate (O.Book.holdings obligations.old) (L.Records.contents requests.old) (L.Records.contents requests.new)) }
         ensures rest { ChangesHoldings O.Book.places O.Book.admission O.Book.layer_number obligations.old obligations.new }
-        ensures room { L.Records.places requests.new ≡ L.Records.places requests.old }
     {
         let later = Day { minute, ..self.day };
         // No `?`: the stage goes back with the refusal.

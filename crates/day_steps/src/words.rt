@@ -1,4 +1,5 @@
 ghost use Rattle.std.specs.Prelude.{◌≡◌, [], ◌∷◌};
+ghost use Rattle.record_list.specs.Lists.{ListBecomes};
 ghost use Rattle.requests.specs.Announcing.{announcement_place};
 ghost use Rattle.day.specs.Announcing.{announce_refusal, announced_list, announced_day};
 ghost use Rattle.day_calls.specs.Answers.{said as saying, numbered, unless, not_in_stage};
@@ -19,8 +20,7 @@ pub fn announce_step<Q: Quantity, L: Records<Record = Request<Q::Row>>>(
 ) -> Result<Answer<Q>, NotDone>
     ensures answer { saying result ≡ before_gate stage.old (λ gate day. unless (announce_refusal Q.Quantity.measure day (joining_before gate) said (L.Records.contents requests.old) (L.Records.places requests.old)) (numbered (0 ∷ (3 ∷ (announcement_place (joining_before gate) (L.Records.contents requests.old) said.passage ∷ []))))) not_in_stage }
     ensures stage { stage.new ≡ before_gate stage.old (λ gate day. same_stage gate (announced_day day said (announce_refusal Q.Quantity.measure day (joining_before gate) said (L.Records.contents requests.old) (L.Records.places requests.old)))) stage.old }
-    ensures requests { (L.Records.contents requests.new) ≡ before_gate stage.old (λ gate day. announced_list Q.Quantity.measure day (joining_before gate) said (L.Records.contents requests.old) (L.Records.places requests.old)) (L.Records.contents requests.old) }
-    ensures room { L.Records.places requests.new ≡ L.Records.places requests.old }
+    ensures requests { ListBecomes L.Records.contents L.Records.places requests.old requests.new (before_gate stage.old (λ gate day. announced_list Q.Quantity.measure day (joining_before gate) said (L.Records.contents requests.old) (L.Records.places requests.old)) (L.Records.contents requests.old)) }
 {
     let place = match stage {
         Stage::Announcing(first) => first.announce(requests, said)?,

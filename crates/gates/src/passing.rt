@@ -3,6 +3,7 @@ ghost use Rattle.std.specs.List.{slice_get};
 ghost use Rattle.std.specs.Result.{result_err};
 ghost use Rattle.book.specs.Grid.{amounts};
 ghost use Rattle.book.specs.Rest.{ChangesHoldings};
+ghost use Rattle.record_list.specs.Lists.{ListBecomes};
 ghost use Rattle.requests.specs.Announcing.{changed_at};
 ghost use Rattle.gates.specs.Gates.{AlikeOver, passing, outcome, closed, cause, moved_on, settled, passed_on, passed_at, after_moves, gated, Judged};
 
@@ -100,11 +101,10 @@ pub fn pass_gate<O: Book, L: Records<Record = Request<<O::Q as Quantity>::Row>>>
     requests: &mut L,
     gate: Gate,
 )
-    ensures requests { (L.Records.contents requests.new) ≡ gated O.Q.Quantity.measure (O.Book.places obligations.old) (O.Book.admission obligations.old) gate (O.Book.holdings obligations.old) (L.Records.contents requests.old) }
+    ensures requests { ListBecomes L.Records.contents L.Records.places requests.old requests.new (gated O.Q.Quantity.measure (O.Book.places obligations.old) (O.Book.admission obligations.old) gate (O.Book.holdings obligations.old) (L.Records.contents requests.old)) }
     ensures after { amounts O.Q.Quantity.measure (O.Book.holdings obligations.new) ≡ amounts O.Q.Quantity.measure (after_moves O.Q.Quantity.measure (O.Book.places obligations.old) (O.Book.admission obligations.old) (O.Book.holdings obligations.old) (L.Records.contents requests.old)) }
     ensures judged { Judged O.Q.Quantity.measure (O.Book.places obligations.old) (O.Book.admission obligations.old) gate (O.Book.holdings obligations.old) (L.Records.contents requests.old) (L.Records.contents requests.new) }
     ensures rest { ChangesHoldings O.Book.places O.Book.admission O.Book.layer_number obligations.old obligations.new }
-    ensures room { L.Records.places requests.new ≡ L.Records.places requests.old }
 {
     // By places: each turn changes the book and the list, so no iterator can lend the requests.
     for place in 0..requests.count() {

@@ -1,6 +1,6 @@
 ghost use Rattle.std.specs.Prelude.{◌≡◌, ℕ, List, length, nat_lt, slice_set};
 ghost use Rattle.std.specs.List.{slice_get};
-ghost use Rattle.record_list.specs.Lists.{next_place, pushed};
+ghost use Rattle.record_list.specs.Lists.{next_place, pushed, ListBecomes};
 
 /// A list of records that grows at its end, up to a number of places. A used place stays used.
 pub trait Records {
@@ -25,12 +25,10 @@ pub trait Records {
     /// Replaces the record at a place, and says whether there is one.
     fn replace(&mut self, place: usize, item: Self::Record) -> bool
         ensures found { result ≡ nat_lt place (length (contents self.old)) }
-        ensures contents { contents self.new ≡ slice_set (contents self.old) place item }
-        ensures places { places self.new ≡ places self.old };
+        ensures list { ListBecomes contents places self.old self.new (slice_set (contents self.old) place item) };
 
     /// Puts a record at the next place and tells it, or changes nothing where every place is used.
     fn append(&mut self, item: Self::Record) -> Option<usize>
         ensures place { result ≡ next_place (contents self.old) (places self.old) }
-        ensures contents { contents self.new ≡ pushed (contents self.old) (places self.old) item }
-        ensures places { places self.new ≡ places self.old };
+        ensures list { ListBecomes contents places self.old self.new (pushed (contents self.old) (places self.old) item) };
 }

@@ -61,7 +61,7 @@ impl<'a, E: Copy> RecordList<'a, E> {
 
 impl<'a, E: Copy> Records for RecordList<'a, E> {
     ghost use Rattle.std.specs.Prelude.{◌≡◌, length, nat_lt, slice_set};
-    ghost use Rattle.record_list.specs.Lists.{contents, places, next_place, pushed};
+    ghost use Rattle.record_list.specs.Lists.{contents, places, next_place, pushed, ListBecomes};
 
     type Record = E;
 
@@ -84,8 +84,7 @@ impl<'a, E: Copy> Records for RecordList<'a, E> {
     // The interface's promises once more, and that the loan stays.
     fn replace(&mut self, place: usize, item: E) -> bool
         ensures found { result ≡ nat_lt place (length (contents self.old)) }
-        ensures contents { contents self.new ≡ slice_set (contents self.old) place item }
-        ensures places { places self.new ≡ places self.old }
+        ensures list { ListBecomes contents places self.old self.new (slice_set (contents self.old) place item) }
         ensures lender { self.new.slots.ghost_name ≡ self.old.slots.ghost_name }
     {
         let found = place < self.count();
@@ -97,8 +96,7 @@ impl<'a, E: Copy> Records for RecordList<'a, E> {
 
     fn append(&mut self, item: E) -> Option<usize>
         ensures place { result ≡ next_place (contents self.old) (places self.old) }
-        ensures contents { contents self.new ≡ pushed (contents self.old) (places self.old) item }
-        ensures places { places self.new ≡ places self.old }
+        ensures list { ListBecomes contents places self.old self.new (pushed (contents self.old) (places self.old) item) }
         ensures lender { self.new.slots.ghost_name ≡ self.old.slots.ghost_name }
     {
         let place = self.used;

@@ -1,5 +1,6 @@
 ghost use Rattle.std.specs.Prelude.{◌≡◌, length, IfOk};
 ghost use Rattle.std.specs.Result.{result_err};
+ghost use Rattle.record_list.specs.Lists.{ListBecomes};
 ghost use Rattle.requests.specs.Requests.{spoken};
 ghost use Rattle.requests.specs.Announcing.{changed_at, unspoken, addition_refusal, added, announcement_refusal, announcement_place, announcement_list};
 
@@ -21,8 +22,7 @@ fn join_request<Q: Quantity, L: Records<Record = Request<Q::Row>>>(
     side: Side,
     quantity: Q,
 )
-    ensures contents { L.Records.contents list.new ≡ changed_at (spoken Q.Quantity.measure side (Q.Quantity.measure.row quantity)) (L.Records.contents list.old) place }
-    ensures places { L.Records.places list.new ≡ L.Records.places list.old }
+    ensures list { ListBecomes L.Records.contents L.Records.places list.old list.new (changed_at (spoken Q.Quantity.measure side (Q.Quantity.measure.row quantity)) (L.Records.contents list.old) place) }
 {
     if let Some(request) = list.at(place) {
         list.replace(place, announced(request, side, quantity));
@@ -36,8 +36,7 @@ fn add_request<R: Copy, L: Records<Record = Request<R>>>(
 ) -> Result<usize, Refusal>
     ensures answer { result_err result ≡ addition_refusal (L.Records.contents list.old) (L.Records.places list.old) }
     ensures place { IfOk result (λ p. p ≡ length (L.Records.contents list.old)) }
-    ensures contents { L.Records.contents list.new ≡ added (L.Records.contents list.old) (L.Records.places list.old) request }
-    ensures places { L.Records.places list.new ≡ L.Records.places list.old }
+    ensures list { ListBecomes L.Records.contents L.Records.places list.old list.new (added (L.Records.contents list.old) (L.Records.places list.old) request) }
 {
     if list.count() >= MOST_REQUESTS {
         return Err(Refusal::NoPlaceInList);
@@ -55,8 +54,7 @@ pub fn put_announcement<Q: Quantity, L: Records<Record = Request<Q::Row>>>(
 ) -> Result<usize, Refusal>
     ensures answer { result_err result ≡ announcement_refusal joining (L.Records.contents list.old) (L.Records.places list.old) said.passage }
     ensures place { IfOk result (λ p. p ≡ announcement_place joining (L.Records.contents list.old) said.passage) }
-    ensures contents { L.Records.contents list.new ≡ announcement_list Q.Quantity.measure joining (L.Records.contents list.old) (L.Records.places list.old) said.side said.passage said.quantity }
-    ensures places { L.Records.places list.new ≡ L.Records.places list.old }
+    ensures list { ListBecomes L.Records.contents L.Records.places list.old list.new (announcement_list Q.Quantity.measure joining (L.Records.contents list.old) (L.Records.places list.old) said.side said.passage said.quantity) }
 {
     if let Some(place) = find_request(list, joining, said.passage) {
         join_request(list, place, said.side, said.quantity);

@@ -39,9 +39,12 @@ loop-place-preserved g c =
     }
 
 pub returns-clause-requests : goal.returns-clause-requests
-returns-clause-requests g c = c.loop-place.invariant.requests ∙ midway_end g.O.Q.Quantity.measure _ _ _ _ _ _ (omega arith)
+returns-clause-requests g c = record {
+  contents_are = c.loop-place.invariant.requests ∙ midway_end g.O.Q.Quantity.measure _ _ _ _ _ _ (omega arith);
+  places_stay = c.loop-place.invariant.room;
+}
 
 pub returns-clause-judged : goal.returns-clause-judged
 returns-clause-judged g c =
     let book = c.args.obligations.now in
-    rw (returns-clause-requests g c) (gate_judges g.O.Q.Quantity.measure (g.O.Book.places book) (g.O.Book.admission book) c.args.gate (g.O.Book.holdings book) (g.L.Records.contents c.args.requests.now))
+    rw ((returns-clause-requests g c).contents_are) (gate_judges g.O.Q.Quantity.measure (g.O.Book.places book) (g.O.Book.admission book) c.args.gate (g.O.Book.holdings book) (g.L.Records.contents c.args.requests.now))
