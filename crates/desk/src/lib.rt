@@ -1,3 +1,3 @@
 #![tactic(auto)]
 
-pub mod perform;
+pub mod day_desk;

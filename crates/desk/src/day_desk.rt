@@ -1,0 +1,71 @@
+ghost use Rattle.day_calls.specs.Days.{DayState, state_of};
+ghost use Rattle.laws.specs.Laws.{Performed, KeepsLaw};
+
+use book::interface::Book;
+use day_calls::calls::{Answer, DayCall, NotDone};
+use day_calls::desk::Desk;
+use day_steps::gate_calls::gate_step;
+use day_steps::openings::{award_step, open_step};
+use day_steps::questions::{holding_step, missing_step, status_step};
+use day_steps::words::announce_step;
+use quantity::interface::Quantity;
+use quantity::reserve::ReserveQuantity;
+use record_list::interface::Records;
+use requests::request::Request;
+
+/// A desk at which every call of one day can be made. Contracts know it by its `state`.
+pub trait DayDesk {
+    type Q: ReserveQuantity;
+
+    ghost state: { Self → DayState Self.Q Self.Q.Row };
+
+    /// Makes any call of the day. Whatever bureau it is part of, and whatever was called before, the law goes on to hold.
+    fn perform(&mut self, call: &DayCall<Self::Q>) -> Result<Answer<Self::Q>, NotDone>
+        ensures performed { Performed Self.Q.measure Self.Q.tenths_in Self.Q.directions (state self.old) call.now result (state self.new) }
+        ensures law { KeepsLaw Self.Q.measure Self.Q.tenths_in Self.Q.directions (state self.old) call.now result (state self.new) };
+}
+
+impl<O: Book, B: Book<Q = O::Q>, L: Records<Record = Request<<O::Q as Quantity>::Row>>> DayDesk
+    for Desk<O, B, L>
+where
+    O::Q: ReserveQuantity,
+{
+    type Q = O::Q;
+
+    ghost state = { state_of O.holdings O.places O.admission B.holdings L.contents L.places };
+
+    fn perform(&mut self, call: &DayCall<O::Q>) -> Result<Answer<O::Q>, NotDone> {
+        let Desk {
+            stage,
+            obligations,
+            bids,
+            requests,
+            sheet,
+        } = self;
+        match call {
+            DayCall::Open { number, quarters } => {
+                open_step(
+                    stage,
+                    obligations,
+                    bids,
+                    requests,
+                    sheet,
+                    *number,
+                    *quarters,
+                )
+            }
+            DayCall::Award { award, prices } => {
+                award_step(stage, obligations, sheet, *award, prices)
+            }
+            DayCall::Announce(said) => announce_step(stage, requests, *said),
+            DayCall::Gate { minute } => gate_step(stage, obligations, requests, *minute),
+            DayCall::Holding { provider, quarter } => {
+                holding_step(stage, obligations, *provider, *quarter)
+            }
+            DayCall::Missing { provider, quarter } => {
+                missing_step(stage, obligations, bids, sheet, *provider, *quarter)
+            }
+            DayCall::Status { place } => status_step(stage, requests, *place),
+        }
+    }
+}
