@@ -7,7 +7,8 @@ use Rattle.std.proofs.lemmas.Bool.Decides.{nat_tests}
 use Rattle.std.proofs.lemmas.List.{map-set, map-append}
 use Rattle.std.proofs.lemmas.Grind.{common_steps}
 use Rattle.quantity.specs.Measure.{Measure}
-use Rattle.day_calls.specs.declared.calls.DayCall.{DayCall}
+use Rattle.day.specs.declared.opening.NewDay.{NewDay}
+use Rattle.day_calls.specs.Calls.{LentDayCall}
 use Rattle.day_calls.specs.declared.calls.DayCall.TheVariants.{Open as OpenDay}
 use Rattle.day_calls.specs.Answers.{Outcome}
 use Rattle.day_calls.specs.Days.{DayState}
@@ -40,7 +41,7 @@ none_past m f ds k h = let l = length-map ds f in grind (arith, common_steps)
 
 module _ {D Q R : Type 0} {m : Measure Q R} {tenths : Q → ℕ → ℕ} {directions : ℕ} (state : D → DayState Q R) (desks : List D) where
   -- a call is made of the desk at a handle
-  pub called : (day : ℕ) {was now : D} {call : DayCall Q} {answer : Outcome Q} → day < length desks → was ≡ get_or desks day was → Performed m tenths directions (state was) call answer (state now) → Called m tenths directions (nat_lt day (length desks)) (bureau_of m state desks) day call answer (bureau_of m state (set desks day now))
+  pub called : (day : ℕ) {was now : D} {call : LentDayCall Q} {answer : Outcome Q} → day < length desks → was ≡ get_or desks day was → Performed m tenths directions (state was) call answer (state now) → Called m tenths directions (nat_lt day (length desks)) (bureau_of m state desks) day call answer (bureau_of m state (set desks day now))
   called day {was} {now} {call} {answer} here at p =
       rw (lt-ltb day (length desks) here)
       (record {
@@ -51,7 +52,7 @@ module _ {D Q R : Type 0} {m : Measure Q R} {tenths : Q → ℕ → ℕ} {direct
       })
 
   -- a fresh desk is opened and kept, or refused and not kept
-  pub opened : (kept : Bool) {supplied now : D} (after : List D) {number quarters : ℕ} {answer : Outcome Q} → Fresh m (state supplied) → Performed m tenths directions (state supplied) (OpenDay number quarters) answer (state now) → is_opened answer ≡ kept → after ≡ cond kept (desks ++ (now ∷ [])) desks → OpenedDay m tenths directions (bureau_of m state desks) number quarters answer (bureau_of m state after)
+  pub opened : (kept : Bool) {supplied now : D} (after : List D) {new : NewDay} {answer : Outcome Q} → Fresh m (state supplied) → Performed m tenths directions (state supplied) (OpenDay new) answer (state now) → is_opened answer ≡ kept → after ≡ cond kept (desks ++ (now ∷ [])) desks → OpenedDay m tenths directions (bureau_of m state desks) new answer (bureau_of m state after)
   opened kept {supplied} {now} after fresh p answered items = record {
     supplied = state supplied;
     opened = state now;

@@ -5,20 +5,20 @@ use Rattle.quantity.specs.Measure.{Measure}
 use Rattle.day_calls.specs.Days.{DayState}
 use Rattle.laws.specs.Laws.{Entry, Laws}
 use Rattle.laws.proofs.Theorem.{begins}
-use Rattle.bureau.specs.declared.calls.Call.{Call}
+use Rattle.bureau.specs.Calls.{LentCall}
 use Rattle.bureau.specs.declared.calls.Reply.{Reply}
 use Rattle.bureau.specs.Bureaus.{BureauState, bureau_of, empty_bureau, Stepped}
 use Rattle.bureau.specs.Runs.{Made, paired, history_of, Ran}
 use Rattle.bureau.proofs.Lawful.{desks_keep}
 
-paired_more : {Q : Type 0} (cs : List (Call Q)) (rs : List (Reply Q)) (c : Call Q) (r : Reply Q) (made : List (Made Q)) → length cs ≡ length rs → paired (cs ++ (c ∷ [])) (rs ++ (r ∷ [])) made ≡ record { call = c; reply = r } ∷ paired cs rs made
+paired_more : {Q : Type 0} (cs : List (LentCall Q)) (rs : List (Reply Q)) (c : LentCall Q) (r : Reply Q) (made : List (Made Q)) → length cs ≡ length rs → paired (cs ++ (c ∷ [])) (rs ++ (r ∷ [])) made ≡ record { call = c; reply = r } ∷ paired cs rs made
 paired_more [] [] c r made e = refl
 paired_more [] (y ∷ ys) c r made e = absurd (omega arith)
 paired_more (x ∷ xs) [] c r made e = absurd (omega arith)
 paired_more (x ∷ xs) (y ∷ ys) c r made e = paired_more xs ys c r (record { call = x; reply = y } ∷ made) (omega arith)
 
 -- the pairs of the first i calls, with one more
-pairs_more : {Q : Type 0} (calls : List (Call Q)) (replies : List (Reply Q)) (i : ℕ) (c : Call Q) (r : Reply Q) → i < length calls → i < length replies → c ≡ get_or calls i c → paired (take (i + 1) calls) (take (i + 1) (set replies i r)) [] ≡ record { call = c; reply = r } ∷ paired (take i calls) (take i replies) []
+pairs_more : {Q : Type 0} (calls : List (LentCall Q)) (replies : List (Reply Q)) (i : ℕ) (c : LentCall Q) (r : Reply Q) → i < length calls → i < length replies → c ≡ get_or calls i c → paired (take (i + 1) calls) (take (i + 1) (set replies i r)) [] ≡ record { call = c; reply = r } ∷ paired (take i calls) (take i replies) []
 pairs_more calls replies i c r h k e =
     (λ j. paired (take_more calls i c h j) (take_more_set replies i r k j) [])
     ∙ (ap (λ x. paired (take i calls ++ (x ∷ [])) (take i replies ++ (r ∷ [])) []) (sym e)
@@ -30,7 +30,7 @@ module _ {Q R : Type 0} (m : Measure Q R) (tenths : Q → ℕ → ℕ) (directio
   ran_law earlier start now [] laws p = subst (λ (b : BureauState Q R). Laws m tenths directions earlier b.days) (sym p) laws
   ran_law earlier start now (x ∷ xs) laws p = p.3
 
-  pub ran_more : {D : Type 0} (state : D → DayState Q R) (earlier : List (Entry Q)) (start : BureauState Q R) (was now : List D) (calls : List (Call Q)) (replies : List (Reply Q)) (i : ℕ) (call : Call Q) (reply : Reply Q) → i < length calls → i < length replies → call ≡ get_or calls i call → Laws m tenths directions earlier start.days → Ran m tenths directions earlier start (paired (take i calls) (take i replies) []) (bureau_of m state was) → Stepped m tenths directions (bureau_of m state was) call reply (bureau_of m state now) → Ran m tenths directions earlier start (paired (take (i + 1) calls) (take (i + 1) (set replies i reply)) []) (bureau_of m state now)
+  pub ran_more : {D : Type 0} (state : D → DayState Q R) (earlier : List (Entry Q)) (start : BureauState Q R) (was now : List D) (calls : List (LentCall Q)) (replies : List (Reply Q)) (i : ℕ) (call : LentCall Q) (reply : Reply Q) → i < length calls → i < length replies → call ≡ get_or calls i call → Laws m tenths directions earlier start.days → Ran m tenths directions earlier start (paired (take i calls) (take i replies) []) (bureau_of m state was) → Stepped m tenths directions (bureau_of m state was) call reply (bureau_of m state now) → Ran m tenths directions earlier start (paired (take (i + 1) calls) (take (i + 1) (set replies i reply)) []) (bureau_of m state now)
   ran_more state earlier start was now calls replies i call reply a b at laws p s =
       let made = paired (take i calls) (take i replies) [] in
       subst (λ all. Ran m tenths directions earlier start all (bureau_of m state now)) (sym (pairs_more calls replies i call reply a b at))

@@ -1,3 +1,4 @@
+pub mod Calls
 pub mod Fresh
 pub mod Bureaus
 pub mod Runs

@@ -2,17 +2,17 @@
 use Rattle.std.specs.Prelude.{◌≡◌, ℕ, List, [], ◌∷◌, ◌++◌}
 use Rattle.quantity.specs.Measure.{Measure}
 use Rattle.laws.specs.Laws.{Entry, Laws}
-use Rattle.bureau.specs.declared.calls.Call.{Call}
+use Rattle.bureau.specs.Calls.{LentCall}
 use Rattle.bureau.specs.declared.calls.Reply.{Reply}
 use Rattle.bureau.specs.Bureaus.{BureauState, entry_of, Stepped}
 
 -- a call with its reply
 pub record Made (Q : Type 0) : Type 0 where
-  pub call : Call Q
+  pub call : LentCall Q
   pub reply : Reply Q
 
 -- the calls paired with their replies, the newest first, before what was made already
-abbrev pub paired : {Q : Type 0} → List (Call Q) → List (Reply Q) → List (Made Q) → List (Made Q)
+abbrev pub paired : {Q : Type 0} → List (LentCall Q) → List (Reply Q) → List (Made Q) → List (Made Q)
 paired [] rs made = made
 paired (c ∷ cs) [] made = made
 paired (c ∷ cs) (r ∷ rs) made = paired cs rs (record { call = c; reply = r } ∷ made)

@@ -3,9 +3,10 @@ ghost use Rattle.bureau.specs.Bureaus.{bureau_of, empty_bureau, is_opened, entry
 ghost use Rattle.bureau.specs.Runs.{paired, Ran};
 ghost use Rattle.laws.specs.Laws.{Entry, Laws};
 
-use crate::calls::{Call, Reply};
+use crate::calls::{Call, LentCall, Reply};
 use crate::supply::Supply;
-use day_calls::calls::{Answer, DayCall, NotCalled, NotDone};
+use day::opening::NewDay;
+use day_calls::calls::{Answer, DayCall, LentDayCall, NotCalled, NotDone};
 use desk::day_desk::DayDesk;
 use std::alloc::Global;
 use std::marker::Model;
@@ -52,7 +53,11 @@ impl<D: DayDesk + Drop> Bureau<D> {
     }
 
     // Makes a call of a day.
-    fn call_day(&mut self, day: usize, call: &DayCall<D::Q>) -> Result<Answer<D::Q>, NotDone>
+    fn call_day(
+        &mut self,
+        day: usize,
+        call: &LentDayCall<'_, D::Q>,
+    ) -> Result<Answer<D::Q>, NotDone>
         ensures { Called D.Q.measure D.Q.tenths_in D.Q.directions (nat_lt day (length self.old)) (bureau_of D.Q.measure D.state self.old) day call.now result (bureau_of D.Q.measure D.state self.new) }
     {
         if day >= self.desks.len() {
@@ -62,17 +67,12 @@ impl<D: DayDesk + Drop> Bureau<D> {
     }
 
     // Opens a new day.
-    fn open_day<S: Supply<D>>(
-        &mut self,
-        supply: &S,
-        number: u8,
-        quarters: u8,
-    ) -> Result<Answer<D::Q>, NotDone>
-        ensures { Opening D.Q.measure D.Q.tenths_in D.Q.directions (bureau_of D.Q.measure D.state self.old) number quarters result (bureau_of D.Q.measure D.state self.new) }
+    fn open_day<S: Supply<D>>(&mut self, supply: &S, new: NewDay) -> Result<Answer<D::Q>, NotDone>
+        ensures { Opening D.Q.measure D.Q.tenths_in D.Q.directions (bureau_of D.Q.measure D.state self.old) new result (bureau_of D.Q.measure D.state self.new) }
     {
         self.desks.reserve(1)?;
         let mut desk = supply.supply(*self.desks.allocator())?;
-        let answer = desk.perform(&DayCall::Open { number, quarters });
+        let answer = desk.perform(&DayCall::Open(new));
         if !is_opened(answer) {
             return answer;
         }
@@ -81,13 +81,13 @@ impl<D: DayDesk + Drop> Bureau<D> {
     }
 
     // Makes any call.
-    fn make<S: Supply<D>>(&mut self, supply: &S, call: &Call<D::Q>) -> Reply<D::Q>
+    fn make<S: Supply<D>>(&mut self, supply: &S, call: &LentCall<'_, D::Q>) -> Reply<D::Q>
         ensures { Stepped D.Q.measure D.Q.tenths_in D.Q.directions (bureau_of D.Q.measure D.state self.old) call.now result (bureau_of D.Q.measure D.state self.new) }
     {
         match call {
-            Call::Open { number, quarters } => Reply {
+            Call::Open(new) => Reply {
                 day: self.desks.len(),
-                answer: self.open_day(supply, *number, *quarters),
+                answer: self.open_day(supply, *new),
             },
             Call::On { day, call } => Reply {
                 day: *day,
@@ -97,7 +97,7 @@ impl<D: DayDesk + Drop> Bureau<D> {
     }
 
     /// Makes any call of the bureau. Whatever was called before, the law goes on to hold.
-    pub fn perform<S: Supply<D>>(&mut self, supply: &S, call: &Call<D::Q>) -> Reply<D::Q>
+    pub fn perform<S: Supply<D>>(&mut self, supply: &S, call: &LentCall<'_, D::Q>) -> Reply<D::Q>
         ensures stepped { Stepped D.Q.measure D.Q.tenths_in D.Q.directions (bureau_of D.Q.measure D.state self.old) call.now result (bureau_of D.Q.measure D.state self.new) }
         ensures law { (h : List (Entry D.Q)) → Laws D.Q.measure D.Q.tenths_in D.Q.directions h (bureau_of D.Q.measure D.state self.old).days → Laws D.Q.measure D.Q.tenths_in D.Q.directions (entry_of call.now result ∷ h) (bureau_of D.Q.measure D.state self.new).days }
     {
@@ -109,7 +109,7 @@ impl<D: DayDesk + Drop> Bureau<D> {
     pub fn run<S: Supply<D>>(
         &mut self,
         supply: &S,
-        calls: &[Call<D::Q>],
+        calls: &[LentCall<'_, D::Q>],
         replies: &mut [Reply<D::Q>],
     ) -> usize
         ensures count { result ≡ min (length calls.now) (length replies.old) }
@@ -129,7 +129,7 @@ impl<D: DayDesk + Drop> Bureau<D> {
     pub fn run_new<S: Supply<D>>(
         supply: &S,
         heap: Global,
-        calls: &[Call<D::Q>],
+        calls: &[LentCall<'_, D::Q>],
         replies: &mut [Reply<D::Q>],
     ) -> (Bureau<D>, usize)
         ensures count { result.1 ≡ min (length calls.now) (length replies.old) }

@@ -1,14 +1,18 @@
+use day::opening::NewDay;
 use day_calls::calls::{Answer, DayCall, NotDone};
 
-/// A call of a bureau: a new day is opened, or a call is made of a day that was.
-#[derive(Clone, Copy)]
-pub enum Call<'a, Q> {
-    Open { number: u8, quarters: u8 },
-    On { day: usize, call: DayCall<'a, Q> },
+/// A call of a bureau, with the prices of an award as a `P`: a new day is opened, or a call is made of a day that was.
+#[derive(Clone, Copy, PartialEq, Eq, Debug)]
+pub enum Call<Q, P> {
+    Open(NewDay),
+    On { day: usize, call: DayCall<Q, P> },
 }
 
+/// A call of a bureau that is lent its prices.
+pub type LentCall<'a, Q> = Call<Q, &'a [u32]>;
+
 /// What a call of a bureau came to, with the handle of the day that it was of.
-#[derive(Clone, Copy)]
+#[derive(Clone, Copy, PartialEq, Eq, Debug)]
 pub struct Reply<Q> {
     pub day: usize,
     pub answer: Result<Answer<Q>, NotDone>,

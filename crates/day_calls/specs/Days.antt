@@ -25,7 +25,7 @@ use Rattle.day.specs.Announcing.{at_minute, announce_refusal, announced_list, an
 use Rattle.day.specs.Opening.{opening_refusal, opened_day}
 use Rattle.day.specs.Questions.{question_refusal, lacking, status_refusal, status_of}
 use Rattle.day.specs.Gating.{gate_refusal}
-use Rattle.day_calls.specs.declared.calls.DayCall.{DayCall}
+use Rattle.day_calls.specs.Calls.{LentDayCall}
 use Rattle.day_calls.specs.declared.calls.DayCall.TheVariants.{Open, Award as AwardCall, Announce, Gate as GateCall, Holding, Missing, Status}
 use Rattle.day_calls.specs.declared.desk.Desk.{Desk}
 use Rattle.day_calls.specs.declared.desk.Stage.{Stage}
@@ -102,7 +102,7 @@ module _ {Q R : Type 0} (m : Measure Q R) (tenths : Q → ℕ → ℕ) (directio
   missing_tenths_in p t d = lacking (s.sheet.exempt p t) (tenths (held_at m s.held p t) d) (tenths (held_at m s.bids p t) d)
 
   -- what a call answers
-  unfoldable pub answered : DayCall Q → Said Q
+  unfoldable pub answered : LentDayCall Q → Said Q
   answered (Open new) = if_unopened s.stage (unless (open_refused new) (numbered (0 ∷ (1 ∷ [])))) not_in_stage
   answered (AwardCall a prices) = in_first s.stage (λ day. unless (award_refused day a prices.now) (numbered (0 ∷ (2 ∷ [])))) not_in_stage
   answered (Announce a) =
@@ -113,7 +113,7 @@ module _ {Q R : Type 0} (m : Measure Q R) (tenths : Q → ℕ → ℕ) (directio
   answered (Status place) = once_opened s.stage (λ day. unless (status_refusal (slice_get s.requests place)) (numbered (0 ∷ (7 ∷ status_number (status_of (slice_get s.requests place)))))) not_in_stage
 
   -- the stage after a call
-  unfoldable pub stage_after : DayCall Q → Stage
+  unfoldable pub stage_after : LentDayCall Q → Stage
   stage_after (Open new) = if_unopened s.stage (unless_refused (open_refused new) (same_stage First (opened_day new.number new.quarters)) s.stage) s.stage
   stage_after (AwardCall a prices) = s.stage
   stage_after (Announce a) = before_gate s.stage (λ gate day. same_stage gate (announced_day day a (announce_refused gate day a))) s.stage
@@ -123,7 +123,7 @@ module _ {Q R : Type 0} (m : Measure Q R) (tenths : Q → ℕ → ℕ) (directio
   stage_after (Status place) = s.stage
 
   -- the amounts of the obligations after a call
-  unfoldable pub held_after : DayCall Q → Grid m.Amount
+  unfoldable pub held_after : LentDayCall Q → Grid m.Amount
   held_after (Open new) = amounts m s.held
   held_after (AwardCall a prices) =
       in_first s.stage (λ day. award_after m s.held s.places s.admission directions day.quarters s.sheet.awards a.provider a.block a.quantity prices.now) (amounts m s.held)
@@ -134,7 +134,7 @@ module _ {Q R : Type 0} (m : Measure Q R) (tenths : Q → ℕ → ℕ) (directio
   held_after (Status place) = amounts m s.held
 
   -- the requests after a call
-  unfoldable pub requests_after : DayCall Q → List (Request R)
+  unfoldable pub requests_after : LentDayCall Q → List (Request R)
   requests_after (Open new) = s.requests
   requests_after (AwardCall a prices) = s.requests
   requests_after (Announce a) = before_gate s.stage (λ gate day. announced_list m day (joining_before gate) a s.requests s.room) s.requests
@@ -144,7 +144,7 @@ module _ {Q R : Type 0} (m : Measure Q R) (tenths : Q → ℕ → ℕ) (directio
   requests_after (Status place) = s.requests
 
   -- the sheet after a call
-  unfoldable pub sheet_after : DayCall Q → SheetView
+  unfoldable pub sheet_after : LentDayCall Q → SheetView
   sheet_after (Open new) = if_unopened s.stage (unless_refused (open_refused new) blank_view s.sheet) s.sheet
   sheet_after (AwardCall a prices) =
       in_first s.stage (λ day. award_sheet m s.held s.places s.admission tenths directions day.quarters a.provider a.block a.quantity prices.now s.sheet) s.sheet

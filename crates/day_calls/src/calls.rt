@@ -10,12 +10,12 @@ use requests::announcement::Announcement;
 use requests::request::Status;
 use std::alloc::AllocError;
 
-/// A call of one day.
+/// A call of one day, with its prices as a `P`: see `LentDayCall`.
 #[derive(Clone, Copy, PartialEq, Eq, Debug)]
-pub enum DayCall<'a, Q> {
+pub enum DayCall<Q, P> {
     Open(NewDay),
     /// An award at a price for each direction.
-    Award { award: Award<Q>, prices: &'a [u32] },
+    Award { award: Award<Q>, prices: P },
     Announce(Announcement<Q>),
     /// The first gate in the first stage, the second in the second.
     Gate { minute: i32 },
@@ -23,6 +23,10 @@ pub enum DayCall<'a, Q> {
     Missing { provider: u8, quarter: u8 },
     Status { place: usize },
 }
+
+/// A call of one day that is lent its prices.
+// The slice is an argument of the type: with the slice in the enum itself, the check covers no function that names it at a volume.
+pub type LentDayCall<'a, Q> = DayCall<Q, &'a [u32]>;
 
 /// Why a call was not made. This is no refusal: nothing was asked of a day.
 #[derive(Clone, Copy, PartialEq, Eq, Debug)]

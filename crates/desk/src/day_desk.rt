@@ -2,7 +2,7 @@ ghost use Rattle.day_calls.specs.Days.{DayState, state_of};
 ghost use Rattle.laws.specs.Laws.{Performed, KeepsLaw};
 
 use book::interface::Book;
-use day_calls::calls::{Answer, DayCall, NotDone};
+use day_calls::calls::{Answer, DayCall, LentDayCall, NotDone};
 use day_calls::desk::Desk;
 use day_steps::gate_calls::gate_step;
 use day_steps::openings::{award_step, open_step};
@@ -20,7 +20,7 @@ pub trait DayDesk {
     ghost state: { Self → DayState Self.Q Self.Q.Row };
 
     /// Makes any call of the day. Whatever bureau it is part of, and whatever was called before, the law goes on to hold.
-    fn perform(&mut self, call: &DayCall<Self::Q>) -> Result<Answer<Self::Q>, NotDone>
+    fn perform(&mut self, call: &LentDayCall<'_, Self::Q>) -> Result<Answer<Self::Q>, NotDone>
         ensures performed { Performed Self.Q.measure Self.Q.tenths_in Self.Q.directions (state self.old) call.now result (state self.new) }
         ensures law { KeepsLaw Self.Q.measure Self.Q.tenths_in Self.Q.directions (state self.old) call.now result (state self.new) };
 }
@@ -34,7 +34,7 @@ where
 
     ghost state = { state_of O.holdings O.places O.admission B.holdings L.contents L.places };
 
-    fn perform(&mut self, call: &DayCall<O::Q>) -> Result<Answer<O::Q>, NotDone> {
+    fn perform(&mut self, call: &LentDayCall<'_, O::Q>) -> Result<Answer<O::Q>, NotDone> {
         let Desk {
             stage,
             obligations,
@@ -43,17 +43,7 @@ where
             sheet,
         } = self;
         match call {
-            DayCall::Open { number, quarters } => {
-                open_step(
-                    stage,
-                    obligations,
-                    bids,
-                    requests,
-                    sheet,
-                    *number,
-                    *quarters,
-                )
-            }
+            DayCall::Open(new) => open_step(stage, obligations, bids, requests, sheet, *new),
             DayCall::Award { award, prices } => {
                 award_step(stage, obligations, sheet, *award, prices)
             }

@@ -17,13 +17,14 @@ use Rattle.awards.specs.Awards.{award_after, award_sheet}
 use Rattle.gates.specs.declared.gate.Gate.{Gate}
 use Rattle.gates.specs.declared.gate.Gate.TheVariants.{First, Second}
 use Rattle.gates.specs.Gates.{after_moves, gated}
+use Rattle.day.specs.declared.opening.NewDay.{NewDay}
 use Rattle.day.specs.declared.stages.Day.{Day}
 use Rattle.requests.specs.declared.announcement.Announcement.{Announcement}
 use Rattle.day.specs.Announcing.{at_minute, announced_list, announced_day}
 use Rattle.day.specs.Opening.{day_length, opened_day}
 use Rattle.day.specs.Questions.{question_refusal, status_refusal, status_of}
 use Rattle.day.specs.Gating.{gate_refusal}
-use Rattle.day_calls.specs.declared.calls.DayCall.{DayCall}
+use Rattle.day_calls.specs.Calls.{LentDayCall}
 use Rattle.day_calls.specs.declared.calls.DayCall.TheVariants.{Open, Award as AwardCall, Announce, Gate as GateCall, Holding, Missing, Status}
 use Rattle.day_calls.specs.declared.desk.Stage.{Stage}
 use Rattle.day_calls.specs.declared.desk.Stage.TheVariants.{Unopened, Announcing as InAnnouncing, Reconciling as InReconciling, Intraday as InIntraday}
@@ -60,48 +61,48 @@ module _ {Q R : Type 0} (m : Measure Q R) (tenths : Q → ℕ → ℕ) (directio
     grid = amounts m s.held
 
     -- the event of a call
-    abbrev made : DayCall Q → Event Q
+    abbrev made : LentDayCall Q → Event Q
     made call = record { call = call; answer = answer }
 
     abbrev Before : Stage → Type 0
     Before stage = StandsAt m tenths directions h stage grid s.requests s.sheet
 
     -- a call whose answer takes nothing
-    rests : (call : DayCall Q) (answers : Said Q) → said answer ≡ answers → tells_awarded answers.numbers ≡ false → ((k : ℕ) → tells_placed k answers.numbers ≡ false) → (stage : Stage) → Before stage → StandsAt m tenths directions (made call ∷ h) stage grid s.requests s.sheet
+    rests : (call : LentDayCall Q) (answers : Said Q) → said answer ≡ answers → tells_awarded answers.numbers ≡ false → ((k : ℕ) → tells_placed k answers.numbers ≡ false) → (stage : Stage) → Before stage → StandsAt m tenths directions (made call ∷ h) stage grid s.requests s.sheet
     rests call answers e a w stage x = idle m tenths directions (made call) h (awarded_by answer answers false e a) (λ k. placed_by k answer answers false e (w k)) stage grid s.requests s.sheet x
 
-    out_of_stage : (call : DayCall Q) → said answer ≡ not_in_stage → (stage : Stage) → Before stage → StandsAt m tenths directions (made call ∷ h) stage grid s.requests s.sheet
+    out_of_stage : (call : LentDayCall Q) → said answer ≡ not_in_stage → (stage : Stage) → Before stage → StandsAt m tenths directions (made call ∷ h) stage grid s.requests s.sheet
     out_of_stage call e = rests call not_in_stage e refl (λ k. refl)
 
     -- a refusal, or an answer that takes nothing
-    rests_unless : (call : DayCall Q) (o : Option Refusal) (answers : Said Q) → said answer ≡ unless o answers → tells_awarded answers.numbers ≡ false → ((k : ℕ) → tells_placed k answers.numbers ≡ false) → (stage : Stage) → Before stage → StandsAt m tenths directions (made call ∷ h) stage grid s.requests s.sheet
+    rests_unless : (call : LentDayCall Q) (o : Option Refusal) (answers : Said Q) → said answer ≡ unless o answers → tells_awarded answers.numbers ≡ false → ((k : ℕ) → tells_placed k answers.numbers ≡ false) → (stage : Stage) → Before stage → StandsAt m tenths directions (made call ∷ h) stage grid s.requests s.sheet
     rests_unless call o answers e a w = rests call (unless o answers) e (unless_award o answers a) (λ k. unless_place k o answers (w k))
 
     -- the opening
-    open_by : (number quarters : ℕ) (o : Option Refusal) → open_refused m tenths directions s number quarters ≡ o → said answer ≡ unless o (numbered (0 ∷ (1 ∷ []))) → Before Unopened → StandsAt m tenths directions (made (Open number quarters) ∷ h) (unless_refused o (same_stage First (opened_day number quarters)) Unopened) grid s.requests (unless_refused o blank_view s.sheet)
-    open_by number quarters None e says x =
-        let y = rests (Open number quarters) (numbered (0 ∷ (1 ∷ []))) says refl (λ k. refl) Unopened x in
-        let hh = made (Open number quarters) ∷ h in
+    open_by : (new : NewDay) (o : Option Refusal) → open_refused m tenths directions s new ≡ o → said answer ≡ unless o (numbered (0 ∷ (1 ∷ []))) → Before Unopened → StandsAt m tenths directions (made (Open new) ∷ h) (unless_refused o (same_stage First (opened_day new.number new.quarters)) Unopened) grid s.requests (unless_refused o blank_view s.sheet)
+    open_by new None e says x =
+        let y = rests (Open new) (numbered (0 ∷ (1 ∷ []))) says refl (λ k. refl) Unopened x in
+        let hh = made (Open new) ∷ h in
         record {
-          volume = open_volume m number quarters s.held s.bids s.requests e (awards_of m tenths directions hh quarters) (words_of m tenths directions hh) (λ p t. (y.quiet quarters p t).0);
-          earnings = λ p l. sym (y.quiet quarters p 0).1;
-          founded = open_founded m number quarters s.held s.bids s.requests e (words_of m tenths directions hh);
-          length = open_length m number quarters s.held s.bids s.requests e;
+          volume = open_volume m new.number new.quarters s.held s.bids s.requests e (awards_of m tenths directions hh new.quarters) (words_of m tenths directions hh) (λ p t. (y.quiet new.quarters p t).0);
+          earnings = λ p l. sym (y.quiet new.quarters p 0).1;
+          founded = open_founded m new.number new.quarters s.held s.bids s.requests e (words_of m tenths directions hh);
+          length = open_length m new.number new.quarters s.held s.bids s.requests e;
           quiet = tt;
         }
-    open_by number quarters (Some r) e says x = rests_unless (Open number quarters) (Some r) (numbered (0 ∷ (1 ∷ []))) says refl (λ k. refl) Unopened x
+    open_by new (Some r) e says x = rests_unless (Open new) (Some r) (numbered (0 ∷ (1 ∷ []))) says refl (λ k. refl) Unopened x
 
     open_kept :
-        (stage : Stage) (number quarters : ℕ) → Before stage → said answer ≡ if_unopened stage (unless (open_refused m tenths directions s number quarters) (numbered (0 ∷ (1 ∷ [])))) not_in_stage →
-        StandsAt m tenths directions (made (Open number quarters) ∷ h) (if_unopened stage (unless_refused (open_refused m tenths directions s number quarters) (same_stage First (opened_day number quarters)) stage) stage) grid s.requests (if_unopened stage (unless_refused (open_refused m tenths directions s number quarters) blank_view s.sheet) s.sheet)
-    open_kept Unopened number quarters x e = open_by number quarters (open_refused m tenths directions s number quarters) refl e x
-    open_kept (InAnnouncing w) number quarters x e = out_of_stage (Open number quarters) e (InAnnouncing w) x
-    open_kept (InReconciling w) number quarters x e = out_of_stage (Open number quarters) e (InReconciling w) x
-    open_kept (InIntraday w) number quarters x e = out_of_stage (Open number quarters) e (InIntraday w) x
+        (stage : Stage) (new : NewDay) → Before stage → said answer ≡ if_unopened stage (unless (open_refused m tenths directions s new) (numbered (0 ∷ (1 ∷ [])))) not_in_stage →
+        StandsAt m tenths directions (made (Open new) ∷ h) (if_unopened stage (unless_refused (open_refused m tenths directions s new) (same_stage First (opened_day new.number new.quarters)) stage) stage) grid s.requests (if_unopened stage (unless_refused (open_refused m tenths directions s new) blank_view s.sheet) s.sheet)
+    open_kept Unopened new x e = open_by new (open_refused m tenths directions s new) refl e x
+    open_kept (InAnnouncing w) new x e = out_of_stage (Open new) e (InAnnouncing w) x
+    open_kept (InReconciling w) new x e = out_of_stage (Open new) e (InReconciling w) x
+    open_kept (InIntraday w) new x e = out_of_stage (Open new) e (InIntraday w) x
 
     -- an award
     module _ (a : Award Q) (prices : Bor (List ℕ)) where
-      abbrev award : DayCall Q
+      abbrev award : LentDayCall Q
       award = AwardCall a prices
 
       abbrev held_by : Day → Grid m.Amount
@@ -216,7 +217,7 @@ module _ {Q R : Type 0} (m : Measure Q R) (tenths : Q → ℕ → ℕ) (directio
 
     -- a question
     question_kept :
-        (call : DayCall Q) (stage : Stage) (o : Day → Option Refusal) (answers : Said Q) → tells_awarded answers.numbers ≡ false → ((k : ℕ) → tells_placed k answers.numbers ≡ false) →
+        (call : LentDayCall Q) (stage : Stage) (o : Day → Option Refusal) (answers : Said Q) → tells_awarded answers.numbers ≡ false → ((k : ℕ) → tells_placed k answers.numbers ≡ false) →
         Before stage → said answer ≡ once_opened stage (λ day. unless (o day) answers) not_in_stage → StandsAt m tenths directions (made call ∷ h) stage grid s.requests s.sheet
     question_kept call Unopened o answers a w x e = out_of_stage call e Unopened x
     question_kept call (InAnnouncing v) o answers a w x e = rests_unless call (o v.day) answers e a w (InAnnouncing v) x
@@ -225,10 +226,10 @@ module _ {Q R : Type 0} (m : Measure Q R) (tenths : Q → ℕ → ℕ) (directio
 
     -- every call
     pub keeps :
-        (call : DayCall Q) → Before s.stage → said answer ≡ answered m tenths directions s call →
+        (call : LentDayCall Q) → Before s.stage → said answer ≡ answered m tenths directions s call →
         StandsAt m tenths directions (made call ∷ h) (stage_after m tenths directions s call) (held_after m tenths directions s call) (requests_after m tenths directions s call) (sheet_after m tenths directions s call)
     unfolding answered stage_after held_after requests_after sheet_after
-    keeps (Open number quarters) x e = open_kept s.stage number quarters x e
+    keeps (Open new) x e = open_kept s.stage new x e
     keeps (AwardCall a prices) x e = award_kept a prices s.stage x e
     keeps (Announce a) x e = announce_kept a s.stage x e
     keeps (GateCall minute) x e = gate_kept minute s.stage x e

@@ -4,7 +4,7 @@ use Rattle.std.proofs.lemmas.Bool.{cases_eq}
 use Rattle.std.proofs.lemmas.Bool.Decides.{nat_tests}
 use Rattle.quantity.specs.Measure.{Measure}
 use Rattle.book.specs.Grid.{amounts}
-use Rattle.day_calls.specs.declared.calls.DayCall.{DayCall}
+use Rattle.day_calls.specs.Calls.{LentDayCall}
 use Rattle.day_calls.specs.declared.desk.Stage.TheVariants.{Unopened}
 use Rattle.day_calls.specs.Answers.{Outcome}
 use Rattle.day_calls.specs.Days.{DayState, stage_after, held_after, requests_after}
@@ -35,7 +35,7 @@ module _ {D : Type 0} (days : ℕ → D) (d : ℕ) (s : D) where
 
 module _ {Q R : Type 0} (m : Measure Q R) (tenths : Q → ℕ → ℕ) (directions : ℕ) where
   -- the law of the day itself
-  pub day_kept : (before after : DayState Q R) (call : DayCall Q) (answer : Outcome Q) → Performed m tenths directions before call answer after → (h : List (Event Q)) → DayLaw m tenths directions h before → DayLaw m tenths directions (record { call = call; answer = answer } ∷ h) after
+  pub day_kept : (before after : DayState Q R) (call : LentDayCall Q) (answer : Outcome Q) → Performed m tenths directions before call answer after → (h : List (Event Q)) → DayLaw m tenths directions h before → DayLaw m tenths directions (record { call = call; answer = answer } ∷ h) after
   day_kept before after call answer p h law =
       let hh = record { call = call; answer = answer } ∷ h in
       let x = keeps m tenths directions before h answer call (stands m tenths directions h before law) p.answer_is in

@@ -10,7 +10,7 @@ use Rattle.gates.specs.Gates.{passing}
 use Rattle.day.specs.declared.stages.Day.{Day}
 use Rattle.requests.specs.declared.announcement.Announcement.{Announcement}
 use Rattle.day.specs.Opening.{day_length}
-use Rattle.day_calls.specs.declared.calls.DayCall.{DayCall}
+use Rattle.day_calls.specs.Calls.{LentDayCall}
 use Rattle.day_calls.specs.declared.desk.Stage.{Stage}
 use Rattle.day_calls.specs.declared.desk.Stage.TheVariants.{Unopened, Announcing as InAnnouncing, Reconciling as InReconciling, Intraday as InIntraday}
 use Rattle.day_calls.specs.Answers.{Outcome, said}
@@ -86,7 +86,7 @@ module _ {Q R : Type 0} (m : Measure Q R) (tenths : Q → ℕ → ℕ) (directio
     pub quiet : NotYet s.stage ((quarters p t : ℕ) → (awarded m tenths directions quarters p t h ≡ m.none) × (earned m tenths directions quarters p h ≡ 0))
 
   -- a call answers what is defined for the day before it, and leaves what is defined
-  pub record Performed (before : DayState Q R) (call : DayCall Q) (answer : Outcome Q) (after : DayState Q R) : Type 0 where
+  pub record Performed (before : DayState Q R) (call : LentDayCall Q) (answer : Outcome Q) (after : DayState Q R) : Type 0 where
     pub answer_is : said answer ≡ answered m tenths directions before call
     pub stage_is : after.stage ≡ stage_after m tenths directions before call
     pub held_is : amounts m after.held ≡ held_after m tenths directions before call
@@ -102,11 +102,11 @@ module _ {Q R : Type 0} (m : Measure Q R) (tenths : Q → ℕ → ℕ) (directio
   Laws h days = (d : ℕ) → DayLaw (of_day d h) (days d)
 
   -- whatever bureau the day is part of, whatever was called before on any of its days: the law goes on to hold
-  abbrev pub KeepsLaw : DayState Q R → DayCall Q → Outcome Q → DayState Q R → Type 0
+  abbrev pub KeepsLaw : DayState Q R → LentDayCall Q → Outcome Q → DayState Q R → Type 0
   KeepsLaw before call answer after =
       (d : ℕ) (days : ℕ → DayState Q R) (h : List (Entry Q)) → days d ≡ before → Laws h days →
       Laws (record { day = d; event = record { call = call; answer = answer } } ∷ h) (put_day days d after)
 
   -- the theorem: a call that is performed as defined keeps the law
   abbrev pub Kept : Type 0
-  Kept = (before after : DayState Q R) (call : DayCall Q) (answer : Outcome Q) → Performed before call answer after → KeepsLaw before call answer after
+  Kept = (before after : DayState Q R) (call : LentDayCall Q) (answer : Outcome Q) → Performed before call answer after → KeepsLaw before call answer after

@@ -8,7 +8,7 @@ use Rattle.requests.specs.declared.request.Status.{Status}
 use Rattle.requests.specs.declared.request.Status.TheVariants.{WaitingForCounterpart, BalanceOk, BalanceError, Confirmed, Rejected, Waiting, Accepted, Declined, Lapsed}
 use Rattle.requests.specs.declared.request.Request.{Request}
 use Rattle.requests.specs.declared.announcement.Announcement.{Announcement}
-use Rattle.day_calls.specs.declared.calls.DayCall.{DayCall}
+use Rattle.day_calls.specs.Calls.{LentDayCall}
 use Rattle.day_calls.specs.declared.calls.DayCall.TheVariants.{Open, Award, Announce, Gate, Holding, Missing, Status as StatusCall}
 use Rattle.day_calls.specs.declared.calls.Answer.TheVariants.{Opened, Awarded, Placed, GatePassed, Held, Lacking, Standing}
 use Rattle.day_calls.specs.Answers.{Outcome}
@@ -16,7 +16,7 @@ use Rattle.laws.specs.Sums.{sum_of, sum_from}
 
 -- a call with what it came to
 pub record Event (Q : Type 0) : Type 0 where
-  pub call : DayCall Q
+  pub call : LentDayCall Q
   pub answer : Outcome Q
 
 abbrev pub is_awarded : {Q : Type 0} → Outcome Q → Bool
@@ -53,8 +53,8 @@ is_confirmed Lapsed = false
 
 module _ {Q R : Type 0} (m : Measure Q R) (tenths : Q → ℕ → ℕ) (directions quarters : ℕ) where
   -- what a call, if it is an award, awards a provider in a quarter: its quantity in each quarter of its block
-  abbrev pub award_of : ℕ → ℕ → DayCall Q → m.Amount
-  award_of p t (Open number length) = m.none
+  abbrev pub award_of : ℕ → ℕ → LentDayCall Q → m.Amount
+  award_of p t (Open new) = m.none
   award_of p t (Award a prices) = cond (p == a.provider && in_block quarters a.block t) (m.amount a.quantity) m.none
   award_of p t (Announce a) = m.none
   award_of p t (Gate minute) = m.none
@@ -71,8 +71,8 @@ module _ {Q R : Type 0} (m : Measure Q R) (tenths : Q → ℕ → ℕ) (directio
   awarded p t h = sum_of m (award_of_call p t) h
 
   -- what a call, if it is an award, earns a provider
-  abbrev pub earning_of : ℕ → DayCall Q → ℕ
-  earning_of p (Open number length) = 0
+  abbrev pub earning_of : ℕ → LentDayCall Q → ℕ
+  earning_of p (Open new) = 0
   earning_of p (Award a prices) = cond (p == a.provider) (award_earns (tenths a.quantity) prices.now directions (count_of_block quarters a.block)) 0
   earning_of p (Announce a) = 0
   earning_of p (Gate minute) = 0
@@ -89,8 +89,8 @@ module _ {Q R : Type 0} (m : Measure Q R) (tenths : Q → ℕ → ℕ) (directio
   earned p (e ∷ h) = earning_by p e + earned p h
 
 -- the announcement of a call, if it is one
-abbrev pub announcement_of : {Q : Type 0} → DayCall Q → Option (Announcement Q)
-announcement_of (Open number length) = None
+abbrev pub announcement_of : {Q : Type 0} → LentDayCall Q → Option (Announcement Q)
+announcement_of (Open new) = None
 announcement_of (Award a prices) = None
 announcement_of (Announce a) = Some a
 announcement_of (Gate minute) = None
