@@ -28,7 +28,7 @@ fn check_award<Q: ReserveQuantity>(
     prices: &[u32],
 ) -> Result<Provider, Refusal>
     ensures provider { IfOk result (λ p. p.number ≡ award.provider) }
-    ensures refusal { result_err result ≡ first_some (award_conditions Q.Quantity.measure Q.ReserveQuantity.directions (view sheet.now).awards award.provider award.block award.quantity prices.now) }
+    ensures refusal { result_err result ≡ first_some (award_conditions Q.measure Q.directions (view sheet.now).awards award.provider award.block award.quantity prices.now) }
 {
     let provider = Provider::try_from(award.provider)?;
     if award.block > 6 {
@@ -60,11 +60,11 @@ pub fn award<O: Book>(
 ) -> Result<(), Refusal>
 where
     O::Q: ReserveQuantity,
-    ensures answer { answer_number (result_err result) ≡ answer_number (award_refusal O.Q.Quantity.measure (O.Book.holdings obligations.old) (O.Book.places obligations.old) (O.Book.admission obligations.old) O.Q.ReserveQuantity.directions quarters (view sheet.old).awards award.provider award.block award.quantity prices.now) }
-    ensures alike { Alike O.Q.Quantity.measure (O.Book.holdings obligations.old) award.quantity (λ other q. award_refusal O.Q.Quantity.measure other (O.Book.places obligations.old) (O.Book.admission obligations.old) O.Q.ReserveQuantity.directions quarters (view sheet.old).awards award.provider award.block q prices.now) (result_err result) }
-    ensures after { amounts O.Q.Quantity.measure (O.Book.holdings obligations.new) ≡ award_after O.Q.Quantity.measure (O.Book.holdings obligations.old) (O.Book.places obligations.old) (O.Book.admission obligations.old) O.Q.ReserveQuantity.directions quarters (view sheet.old).awards award.provider award.block award.quantity prices.now }
-    ensures rest { ChangesHoldings O.Book.places O.Book.admission O.Book.layer_number obligations.old obligations.new }
-    ensures sheet { view sheet.new ≡ award_sheet O.Q.Quantity.measure (O.Book.holdings obligations.old) (O.Book.places obligations.old) (O.Book.admission obligations.old) O.Q.ReserveQuantity.tenths_in O.Q.ReserveQuantity.directions quarters award.provider award.block award.quantity prices.now (view sheet.old) }
+    ensures answer { answer_number (result_err result) ≡ answer_number (award_refusal O.Q.measure (O.holdings obligations.old) (O.places obligations.old) (O.admission obligations.old) O.Q.directions quarters (view sheet.old).awards award.provider award.block award.quantity prices.now) }
+    ensures alike { Alike O.Q.measure (O.holdings obligations.old) award.quantity (λ other q. award_refusal O.Q.measure other (O.places obligations.old) (O.admission obligations.old) O.Q.directions quarters (view sheet.old).awards award.provider award.block q prices.now) (result_err result) }
+    ensures after { amounts O.Q.measure (O.holdings obligations.new) ≡ award_after O.Q.measure (O.holdings obligations.old) (O.places obligations.old) (O.admission obligations.old) O.Q.directions quarters (view sheet.old).awards award.provider award.block award.quantity prices.now }
+    ensures rest { ChangesHoldings O.places O.admission O.layer_number obligations.old obligations.new }
+    ensures sheet { view sheet.new ≡ award_sheet O.Q.measure (O.holdings obligations.old) (O.places obligations.old) (O.admission obligations.old) O.Q.tenths_in O.Q.directions quarters award.provider award.block award.quantity prices.now (view sheet.old) }
 {
     let provider = check_award(sheet, award, prices)?;
     let block = Block {

@@ -30,7 +30,7 @@ fn earned_in<Q: ReserveQuantity>(
     direction: Direction,
     quarters: u8,
 ) -> u64
-    ensures value { result ≡ earns_in (Q.ReserveQuantity.tenths_in quantity) prices.now quarters (number direction) }
+    ensures value { result ≡ earns_in (Q.tenths_in quantity) prices.now quarters (number direction) }
     ensures fits { result < 2 ^ 63 }
     ensures bound { overpriced prices.now ≡ false → quarters ≤ 100 → result ≤ most_cents * 10000 * 100 }
 {
@@ -40,7 +40,7 @@ fn earned_in<Q: ReserveQuantity>(
 /// What an award of a quantity over so many quarters earns.
 #[tactic(auto, unfolding(crate::specs::Awards::award_earns, book::specs::Grid::total))]
 pub fn award_earnings<Q: ReserveQuantity>(quantity: Q, prices: &[u32], quarters: u8) -> u64
-    ensures value { result ≡ award_earns (Q.ReserveQuantity.tenths_in quantity) prices.now Q.ReserveQuantity.directions quarters }
+    ensures value { result ≡ award_earns (Q.tenths_in quantity) prices.now Q.directions quarters }
     ensures bound { overpriced prices.now ≡ false → quarters ≤ 100 → result ≤ most_earned }
 {
     let up = earned_in(quantity, prices, Direction::Up, quarters);

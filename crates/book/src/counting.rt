@@ -9,7 +9,7 @@ use quantity::interface::Quantity;
 
 // How many holdings of a provider are not zero.
 fn count_quarters<B: Book>(book: &B, provider: u8) -> usize
-    ensures value { result ≡ count_by (λ t. not (is_zero B.Q.Quantity.measure (held_at B.Q.Quantity.measure (B.Book.holdings book.now) provider t))) (range_with_len 0 100) }
+    ensures value { result ≡ count_by (λ t. not (is_zero B.Q.measure (held_at B.Q.measure (B.holdings book.now) provider t))) (range_with_len 0 100) }
     ensures bound { result ≤ 100 }
 {
     (0..100u8)
@@ -19,7 +19,7 @@ fn count_quarters<B: Book>(book: &B, provider: u8) -> usize
 
 /// How many holdings of a book are not zero.
 pub fn count_holdings<B: Book>(book: &B) -> usize
-    ensures value { result ≡ taken B.Q.Quantity.measure (B.Book.holdings book.now) }
+    ensures value { result ≡ taken B.Q.measure (B.holdings book.now) }
     ensures bound { result ≤ 3200 }
 {
     // A `for`, since the check finds no bound for the sum of what a chain counts.

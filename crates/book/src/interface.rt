@@ -25,30 +25,30 @@ pub trait Book {
 
     /// The holding, zero outside the range.
     fn holding(&self, provider: u8, quarter: u8) -> Self::Q
-        ensures { result ≡ held_at Self.Q.Quantity.measure (holdings self.now) provider quarter };
+        ensures { result ≡ held_at Self.Q.measure (holdings self.now) provider quarter };
 
     /// How many places are free: with the non-zero holdings they are all places.
     fn free(&self) -> usize
-        ensures { result + taken Self.Q.Quantity.measure (holdings self.now) ≡ places self.now };
+        ensures { result + taken Self.Q.measure (holdings self.now) ≡ places self.now };
 
     /// Whether the quantity is admitted as this holding, yes outside the range, or the cause why not.
     /// Values that stand for the same amount are answered alike.
     fn admits(&self, provider: u8, quarter: u8, quantity: Self::Q) -> Result<(), Cause>
         ensures value { admission_number (result_err result) ≡ admission_number (admitted_at (admission self.now) provider quarter quantity) }
-        ensures alike { (other : Self.Q) → Self.Q.Quantity.measure.amount other ≡ Self.Q.Quantity.measure.amount quantity → admission self.now provider quarter other ≡ admission self.now provider quarter quantity };
+        ensures alike { (other : Self.Q) → Self.Q.measure.amount other ≡ Self.Q.measure.amount quantity → admission self.now provider quarter other ≡ admission self.now provider quarter quantity };
 
     fn layer(&self) -> u8
         ensures { result ≡ layer_number self.now };
 
     /// Replaces one holding by its sum with the quantity, or changes nothing and says why.
     fn raise(&mut self, provider: u8, quarter: u8, quantity: Self::Q) -> Result<(), BookRefusal>
-        ensures answer { answer_number (result_err result) ≡ answer_number (raise_refusal Self.Q.Quantity.measure (holdings self.old) (places self.old) (admission self.old) provider quarter quantity) }
-        ensures after { amounts Self.Q.Quantity.measure (holdings self.new) ≡ raised Self.Q.Quantity.measure (holdings self.old) (places self.old) (admission self.old) provider quarter quantity }
+        ensures answer { answer_number (result_err result) ≡ answer_number (raise_refusal Self.Q.measure (holdings self.old) (places self.old) (admission self.old) provider quarter quantity) }
+        ensures after { amounts Self.Q.measure (holdings self.new) ≡ raised Self.Q.measure (holdings self.old) (places self.old) (admission self.old) provider quarter quantity }
         ensures rest { ChangesHoldings places admission layer_number self.old self.new };
 
     /// Replaces one holding by its remainder after the quantity, or changes nothing and says why.
     fn lower(&mut self, provider: u8, quarter: u8, quantity: Self::Q) -> Result<(), BookRefusal>
-        ensures answer { answer_number (result_err result) ≡ answer_number (lower_refusal Self.Q.Quantity.measure (holdings self.old) (places self.old) provider quarter quantity) }
-        ensures after { amounts Self.Q.Quantity.measure (holdings self.new) ≡ lowered Self.Q.Quantity.measure (holdings self.old) (places self.old) provider quarter quantity }
+        ensures answer { answer_number (result_err result) ≡ answer_number (lower_refusal Self.Q.measure (holdings self.old) (places self.old) provider quarter quantity) }
+        ensures after { amounts Self.Q.measure (holdings self.new) ≡ lowered Self.Q.measure (holdings self.old) (places self.old) provider quarter quantity }
         ensures rest { ChangesHoldings places admission layer_number self.old self.new };
 }

@@ -17,7 +17,7 @@ use requests::request::Request;
 impl<S: BeforeGate> InStage<S> {
     // What is wrong with an announcement before the list is looked at.
     fn check_outline<Q: Quantity>(&self, said: Announcement<Q>) -> Result<(), Refusal>
-        ensures { result_err result ≡ outline_refusal Q.Quantity.measure self.now.day S.joining said }
+        ensures { result_err result ≡ outline_refusal Q.measure self.now.day S.joining said }
     {
         let passage = said.passage;
         Provider::try_from(passage.giver)?;
@@ -48,9 +48,9 @@ impl<S: BeforeGate> InStage<S> {
         requests: &mut L,
         said: Announcement<Q>,
     ) -> Result<usize, Refusal>
-        ensures answer { result_err result ≡ announce_refusal Q.Quantity.measure self.old.day S.joining said (L.Records.contents requests.old) (L.Records.places requests.old) }
-        ensures place { IfOk result (λ p. p ≡ announcement_place S.joining (L.Records.contents requests.old) said.passage) }
-        ensures list { ListBecomes L.Records.contents L.Records.places requests.old requests.new (announced_list Q.Quantity.measure self.old.day S.joining said (L.Records.contents requests.old) (L.Records.places requests.old)) }
+        ensures answer { result_err result ≡ announce_refusal Q.measure self.old.day S.joining said (L.contents requests.old) (L.places requests.old) }
+        ensures place { IfOk result (λ p. p ≡ announcement_place S.joining (L.contents requests.old) said.passage) }
+        ensures list { ListBecomes L.contents L.places requests.old requests.new (announced_list Q.measure self.old.day S.joining said (L.contents requests.old) (L.places requests.old)) }
         ensures day { self.new.day ≡ announced_day self.old.day said (result_err result) }
     {
         self.check_outline(said)?;

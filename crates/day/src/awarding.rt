@@ -25,10 +25,10 @@ impl Announcing {
     ) -> Result<(), Refusal>
     where
         O::Q: ReserveQuantity,
-        ensures answer { result_err result ≡ award_refusal O.Q.Quantity.measure (O.Book.holdings obligations.old) (O.Book.places obligations.old) (O.Book.admission obligations.old) O.Q.ReserveQuantity.directions self.now.day.quarters (view sheet.old).awards award.provider award.block award.quantity prices.now }
-        ensures after { amounts O.Q.Quantity.measure (O.Book.holdings obligations.new) ≡ award_after O.Q.Quantity.measure (O.Book.holdings obligations.old) (O.Book.places obligations.old) (O.Book.admission obligations.old) O.Q.ReserveQuantity.directions self.now.day.quarters (view sheet.old).awards award.provider award.block award.quantity prices.now }
-        ensures rest { ChangesHoldings O.Book.places O.Book.admission O.Book.layer_number obligations.old obligations.new }
-        ensures sheet { view sheet.new ≡ award_sheet O.Q.Quantity.measure (O.Book.holdings obligations.old) (O.Book.places obligations.old) (O.Book.admission obligations.old) O.Q.ReserveQuantity.tenths_in O.Q.ReserveQuantity.directions self.now.day.quarters award.provider award.block award.quantity prices.now (view sheet.old) }
+        ensures answer { result_err result ≡ award_refusal O.Q.measure (O.holdings obligations.old) (O.places obligations.old) (O.admission obligations.old) O.Q.directions self.now.day.quarters (view sheet.old).awards award.provider award.block award.quantity prices.now }
+        ensures after { amounts O.Q.measure (O.holdings obligations.new) ≡ award_after O.Q.measure (O.holdings obligations.old) (O.places obligations.old) (O.admission obligations.old) O.Q.directions self.now.day.quarters (view sheet.old).awards award.provider award.block award.quantity prices.now }
+        ensures rest { ChangesHoldings O.places O.admission O.layer_number obligations.old obligations.new }
+        ensures sheet { view sheet.new ≡ award_sheet O.Q.measure (O.holdings obligations.old) (O.places obligations.old) (O.admission obligations.old) O.Q.tenths_in O.Q.directions self.now.day.quarters award.provider award.block award.quantity prices.now (view sheet.old) }
     {
         awards::award::award(self.day.quarters, obligations, sheet, award, prices)
     }

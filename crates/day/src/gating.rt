@@ -42,10 +42,10 @@ impl<S: BeforeGate> InStage<S> {
     ) -> Result<InStage<S::Next>, (InStage<S>, Refusal)>
         ensures answer { refusal_in result ≡ gate_refusal S.gate self.day minute }
         ensures day { MatchResult result (λ next. next.day ≡ at_minute self.day minute) (λ back. back.0.day ≡ self.day) }
-        ensures requests { ListBecomes L.Records.contents L.Records.places requests.old requests.new (unless_refused (gate_refusal S.gate self.day minute) (gated O.Q.Quantity.measure (O.Book.places obligations.old) (O.Book.admission obligations.old) S.gate (O.Book.holdings obligations.old) (L.Records.contents requests.old)) (L.Records.contents requests.old)) }
-        ensures after { amounts O.Q.Quantity.measure (O.Book.holdings obligations.new) ≡ unless_refused (gate_refusal S.gate self.day minute) (amounts O.Q.Quantity.measure (after_moves O.Q.Quantity.measure (O.Book.places obligations.old) (O.Book.admission obligations.old) (O.Book.holdings obligations.old) (L.Records.contents requests.old))) (amounts O.Q.Quantity.measure (O.Book.holdings obligations.old)) }
-        ensures judged { OnOk result (Judged O.Q.Quantity.measure (O.Book.places obligations.old) (O.Book.admission obligations.old) S.gate (O.Book.holdings obligations.old) (L.Records.contents requests.old) (L.Records.contents requests.new)) }
-        ensures rest { ChangesHoldings O.Book.places O.Book.admission O.Book.layer_number obligations.old obligations.new }
+        ensures requests { ListBecomes L.contents L.places requests.old requests.new (unless_refused (gate_refusal S.gate self.day minute) (gated O.Q.measure (O.places obligations.old) (O.admission obligations.old) S.gate (O.holdings obligations.old) (L.contents requests.old)) (L.contents requests.old)) }
+        ensures after { amounts O.Q.measure (O.holdings obligations.new) ≡ unless_refused (gate_refusal S.gate self.day minute) (amounts O.Q.measure (after_moves O.Q.measure (O.places obligations.old) (O.admission obligations.old) (O.holdings obligations.old) (L.contents requests.old))) (amounts O.Q.measure (O.holdings obligations.old)) }
+        ensures judged { OnOk result (Judged O.Q.measure (O.places obligations.old) (O.admission obligations.old) S.gate (O.holdings obligations.old) (L.contents requests.old) (L.contents requests.new)) }
+        ensures rest { ChangesHoldings O.places O.admission O.layer_number obligations.old obligations.new }
     {
         let later = Day { minute, ..self.day };
         // No `?`: the stage goes back with the refusal.

@@ -25,7 +25,7 @@ fn nothing_held<O: Book, B: Book<Q = O::Q>, L: Records>(
     bids: &B,
     requests: &L,
 ) -> bool
-    ensures { result ≡ nothing_held O.Q.Quantity.measure (O.Book.holdings obligations.now) (B.Book.holdings bids.now) (L.Records.contents requests.now) }
+    ensures { result ≡ nothing_held O.Q.measure (O.holdings obligations.now) (B.holdings bids.now) (L.contents requests.now) }
 {
     count_holdings(obligations) == 0 && count_holdings(bids) == 0 && requests.count() == 0
 }
@@ -39,7 +39,7 @@ impl Announcing {
         requests: &L,
         sheet: &mut Sheet,
     ) -> Result<Announcing, Refusal>
-        ensures answer { result_err result ≡ opening_refusal O.Q.Quantity.measure new.number new.quarters (O.Book.holdings obligations.now) (B.Book.holdings bids.now) (L.Records.contents requests.now) }
+        ensures answer { result_err result ≡ opening_refusal O.Q.measure new.number new.quarters (O.holdings obligations.now) (B.holdings bids.now) (L.contents requests.now) }
         ensures day { IfOk result (λ s. s.day ≡ opened_day new.number new.quarters) }
         ensures sheet { view sheet.new ≡ unless_refused (result_err result) blank_view (view sheet.old) }
     {

@@ -40,7 +40,7 @@ pub fn holding_of<O: Book>(
     quarter: u8,
 ) -> Result<O::Q, Refusal>
     ensures answer { result_err result ≡ question_refusal day provider quarter }
-    ensures value { IfOk result (λ q. q ≡ held_at O.Q.Quantity.measure (O.Book.holdings obligations.now) provider quarter) }
+    ensures value { IfOk result (λ q. q ≡ held_at O.Q.measure (O.holdings obligations.now) provider quarter) }
 {
     check_question(day, provider, quarter)?;
     Ok(obligations.holding(provider, quarter))
@@ -48,7 +48,7 @@ pub fn holding_of<O: Book>(
 
 // What is held in a direction above what is bid, nothing in an exempt quarter.
 fn missing_in<Q: ReserveQuantity>(held: Q, bid: Q, exempt: bool, direction: Direction) -> u16
-    ensures { result ≡ lacking exempt (Q.ReserveQuantity.tenths_in held (direction-number direction)) (Q.ReserveQuantity.tenths_in bid (direction-number direction)) }
+    ensures { result ≡ lacking exempt (Q.tenths_in held (direction-number direction)) (Q.tenths_in bid (direction-number direction)) }
 {
     if exempt {
         return 0;
@@ -68,8 +68,8 @@ pub fn missing_volume<O: Book, B: Book<Q = O::Q>>(
 where
     O::Q: ReserveQuantity,
     ensures answer { result_err result ≡ question_refusal day provider quarter }
-    ensures up { IfOk result (λ x. x.up ≡ lacking ((view sheet.now).exempt provider quarter) (O.Q.ReserveQuantity.tenths_in (held_at O.Q.Quantity.measure (O.Book.holdings obligations.now) provider quarter) 0) (O.Q.ReserveQuantity.tenths_in (held_at O.Q.Quantity.measure (B.Book.holdings bids.now) provider quarter) 0)) }
-    ensures down { IfOk result (λ x. x.down ≡ lacking ((view sheet.now).exempt provider quarter) (O.Q.ReserveQuantity.tenths_in (held_at O.Q.Quantity.measure (O.Book.holdings obligations.now) provider quarter) 1) (O.Q.ReserveQuantity.tenths_in (held_at O.Q.Quantity.measure (B.Book.holdings bids.now) provider quarter) 1)) }
+    ensures up { IfOk result (λ x. x.up ≡ lacking ((view sheet.now).exempt provider quarter) (O.Q.tenths_in (held_at O.Q.measure (O.holdings obligations.now) provider quarter) 0) (O.Q.tenths_in (held_at O.Q.measure (B.holdings bids.now) provider quarter) 0)) }
+    ensures down { IfOk result (λ x. x.down ≡ lacking ((view sheet.now).exempt provider quarter) (O.Q.tenths_in (held_at O.Q.measure (O.holdings obligations.now) provider quarter) 1) (O.Q.tenths_in (held_at O.Q.measure (B.holdings bids.now) provider quarter) 1)) }
 {
     check_question(day, provider, quarter)?;
     let held = obligations.holding(provider, quarter);
@@ -86,8 +86,8 @@ pub fn request_status<R: Copy, L: Records<Record = Request<R>>>(
     requests: &L,
     place: usize,
 ) -> Result<Status, Refusal>
-    ensures answer { result_err result ≡ status_refusal (slice_get (L.Records.contents requests.now) place) }
-    ensures value { IfOk result (λ s. s ≡ status_of (slice_get (L.Records.contents requests.now) place)) }
+    ensures answer { result_err result ≡ status_refusal (slice_get (L.contents requests.now) place) }
+    ensures value { IfOk result (λ s. s ≡ status_of (slice_get (L.contents requests.now) place)) }
 {
     let request = requests.at(place).ok_or(Refusal::NoSuchSpan)?;
     Ok(request.status)

@@ -25,9 +25,9 @@ pub fn gate_step<O: Book, L: Records<Record = Request<<O::Q as Quantity>::Row>>>
 ) -> Result<Answer<O::Q>, NotDone>
     ensures answer { said result ≡ before_gate stage.old (λ gate day. unless (gate_refusal gate day minute) (numbered (0 ∷ (4 ∷ [])))) not_in_stage }
     ensures stage { stage.new ≡ before_gate stage.old (λ gate day. unless_refused (gate_refusal gate day minute) (next_stage gate (at_minute day minute)) stage.old) stage.old }
-    ensures requests { ListBecomes L.Records.contents L.Records.places requests.old requests.new (before_gate stage.old (λ gate day. unless_refused (gate_refusal gate day minute) (gated O.Q.Quantity.measure (O.Book.places obligations.old) (O.Book.admission obligations.old) gate (O.Book.holdings obligations.old) (L.Records.contents requests.old)) (L.Records.contents requests.old)) (L.Records.contents requests.old)) }
-    ensures after { amounts O.Q.Quantity.measure (O.Book.holdings obligations.new) ≡ before_gate stage.old (λ gate day. unless_refused (gate_refusal gate day minute) (amounts O.Q.Quantity.measure (after_moves O.Q.Quantity.measure (O.Book.places obligations.old) (O.Book.admission obligations.old) (O.Book.holdings obligations.old) (L.Records.contents requests.old))) (amounts O.Q.Quantity.measure (O.Book.holdings obligations.old))) (amounts O.Q.Quantity.measure (O.Book.holdings obligations.old)) }
-    ensures rest { ChangesHoldings O.Book.places O.Book.admission O.Book.layer_number obligations.old obligations.new }
+    ensures requests { ListBecomes L.contents L.places requests.old requests.new (before_gate stage.old (λ gate day. unless_refused (gate_refusal gate day minute) (gated O.Q.measure (O.places obligations.old) (O.admission obligations.old) gate (O.holdings obligations.old) (L.contents requests.old)) (L.contents requests.old)) (L.contents requests.old)) }
+    ensures after { amounts O.Q.measure (O.holdings obligations.new) ≡ before_gate stage.old (λ gate day. unless_refused (gate_refusal gate day minute) (amounts O.Q.measure (after_moves O.Q.measure (O.places obligations.old) (O.admission obligations.old) (O.holdings obligations.old) (L.contents requests.old))) (amounts O.Q.measure (O.holdings obligations.old))) (amounts O.Q.measure (O.holdings obligations.old)) }
+    ensures rest { ChangesHoldings O.places O.admission O.layer_number obligations.old obligations.new }
 {
     // Two arms of one shape: each stage goes on to, or back into, a variant of its own. A trait that names the two variants of a stage,
     // with an impl for each, is longer than the second arm.

@@ -29,9 +29,9 @@ pub fn open_step<O: Book, B: Book<Q = O::Q>, L: Records>(
     sheet: &mut Sheet,
     new: NewDay,
 ) -> Result<Answer<O::Q>, NotDone>
-    ensures answer { said result ≡ if_unopened stage.old (unless (opening_refusal O.Q.Quantity.measure new.number new.quarters (O.Book.holdings obligations.now) (B.Book.holdings bids.now) (L.Records.contents requests.now)) (numbered (0 ∷ (1 ∷ [])))) not_in_stage }
-    ensures stage { stage.new ≡ if_unopened stage.old (unless_refused (opening_refusal O.Q.Quantity.measure new.number new.quarters (O.Book.holdings obligations.now) (B.Book.holdings bids.now) (L.Records.contents requests.now)) (same_stage First (opened_day new.number new.quarters)) stage.old) stage.old }
-    ensures sheet { view sheet.new ≡ if_unopened stage.old (unless_refused (opening_refusal O.Q.Quantity.measure new.number new.quarters (O.Book.holdings obligations.now) (B.Book.holdings bids.now) (L.Records.contents requests.now)) blank_view (view sheet.old)) (view sheet.old) }
+    ensures answer { said result ≡ if_unopened stage.old (unless (opening_refusal O.Q.measure new.number new.quarters (O.holdings obligations.now) (B.holdings bids.now) (L.contents requests.now)) (numbered (0 ∷ (1 ∷ [])))) not_in_stage }
+    ensures stage { stage.new ≡ if_unopened stage.old (unless_refused (opening_refusal O.Q.measure new.number new.quarters (O.holdings obligations.now) (B.holdings bids.now) (L.contents requests.now)) (same_stage First (opened_day new.number new.quarters)) stage.old) stage.old }
+    ensures sheet { view sheet.new ≡ if_unopened stage.old (unless_refused (opening_refusal O.Q.measure new.number new.quarters (O.holdings obligations.now) (B.holdings bids.now) (L.contents requests.now)) blank_view (view sheet.old)) (view sheet.old) }
 {
     let Stage::Unopened = stage else {
         return Err(NotCalled::NotInThisStage.into());
@@ -51,10 +51,10 @@ pub fn award_step<O: Book>(
 ) -> Result<Answer<O::Q>, NotDone>
 where
     O::Q: ReserveQuantity,
-    ensures answer { said result ≡ in_first stage.now (λ day. unless (award_refusal O.Q.Quantity.measure (O.Book.holdings obligations.old) (O.Book.places obligations.old) (O.Book.admission obligations.old) O.Q.ReserveQuantity.directions day.quarters (view sheet.old).awards award.provider award.block award.quantity prices.now) (numbered (0 ∷ (2 ∷ [])))) not_in_stage }
-    ensures after { amounts O.Q.Quantity.measure (O.Book.holdings obligations.new) ≡ in_first stage.now (λ day. award_after O.Q.Quantity.measure (O.Book.holdings obligations.old) (O.Book.places obligations.old) (O.Book.admission obligations.old) O.Q.ReserveQuantity.directions day.quarters (view sheet.old).awards award.provider award.block award.quantity prices.now) (amounts O.Q.Quantity.measure (O.Book.holdings obligations.old)) }
-    ensures rest { ChangesHoldings O.Book.places O.Book.admission O.Book.layer_number obligations.old obligations.new }
-    ensures sheet { view sheet.new ≡ in_first stage.now (λ day. award_sheet O.Q.Quantity.measure (O.Book.holdings obligations.old) (O.Book.places obligations.old) (O.Book.admission obligations.old) O.Q.ReserveQuantity.tenths_in O.Q.ReserveQuantity.directions day.quarters award.provider award.block award.quantity prices.now (view sheet.old)) (view sheet.old) }
+    ensures answer { said result ≡ in_first stage.now (λ day. unless (award_refusal O.Q.measure (O.holdings obligations.old) (O.places obligations.old) (O.admission obligations.old) O.Q.directions day.quarters (view sheet.old).awards award.provider award.block award.quantity prices.now) (numbered (0 ∷ (2 ∷ [])))) not_in_stage }
+    ensures after { amounts O.Q.measure (O.holdings obligations.new) ≡ in_first stage.now (λ day. award_after O.Q.measure (O.holdings obligations.old) (O.places obligations.old) (O.admission obligations.old) O.Q.directions day.quarters (view sheet.old).awards award.provider award.block award.quantity prices.now) (amounts O.Q.measure (O.holdings obligations.old)) }
+    ensures rest { ChangesHoldings O.places O.admission O.layer_number obligations.old obligations.new }
+    ensures sheet { view sheet.new ≡ in_first stage.now (λ day. award_sheet O.Q.measure (O.holdings obligations.old) (O.places obligations.old) (O.admission obligations.old) O.Q.tenths_in O.Q.directions day.quarters award.provider award.block award.quantity prices.now (view sheet.old)) (view sheet.old) }
 {
     let Stage::Announcing(announcing) = stage else {
         return Err(NotCalled::NotInThisStage.into());

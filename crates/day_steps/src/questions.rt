@@ -37,7 +37,7 @@ pub fn holding_step<O: Book>(
     provider: u8,
     quarter: u8,
 ) -> Result<Answer<O::Q>, NotDone>
-    ensures { said result ≡ once_opened stage.now (λ day. unless (question_refusal day provider quarter) (quantified (0 ∷ (5 ∷ [])) (held_at O.Q.Quantity.measure (O.Book.holdings obligations.now) provider quarter))) not_in_stage }
+    ensures { said result ≡ once_opened stage.now (λ day. unless (question_refusal day provider quarter) (quantified (0 ∷ (5 ∷ [])) (held_at O.Q.measure (O.holdings obligations.now) provider quarter))) not_in_stage }
 {
     let day = day_of(stage).ok_or(NotCalled::NotInThisStage)?;
     let quantity = holding_of(day, obligations, provider, quarter)?;
@@ -55,7 +55,7 @@ pub fn missing_step<O: Book, B: Book<Q = O::Q>>(
 ) -> Result<Answer<O::Q>, NotDone>
 where
     O::Q: ReserveQuantity,
-    ensures { said result ≡ once_opened stage.now (λ day. unless (question_refusal day provider quarter) (numbered (0 ∷ (6 ∷ (lacking ((view sheet.now).exempt provider quarter) (O.Q.ReserveQuantity.tenths_in (held_at O.Q.Quantity.measure (O.Book.holdings obligations.now) provider quarter) 0) (O.Q.ReserveQuantity.tenths_in (held_at O.Q.Quantity.measure (B.Book.holdings bids.now) provider quarter) 0) ∷ (lacking ((view sheet.now).exempt provider quarter) (O.Q.ReserveQuantity.tenths_in (held_at O.Q.Quantity.measure (O.Book.holdings obligations.now) provider quarter) 1) (O.Q.ReserveQuantity.tenths_in (held_at O.Q.Quantity.measure (B.Book.holdings bids.now) provider quarter) 1) ∷ [])))))) not_in_stage }
+    ensures { said result ≡ once_opened stage.now (λ day. unless (question_refusal day provider quarter) (numbered (0 ∷ (6 ∷ (lacking ((view sheet.now).exempt provider quarter) (O.Q.tenths_in (held_at O.Q.measure (O.holdings obligations.now) provider quarter) 0) (O.Q.tenths_in (held_at O.Q.measure (B.holdings bids.now) provider quarter) 0) ∷ (lacking ((view sheet.now).exempt provider quarter) (O.Q.tenths_in (held_at O.Q.measure (O.holdings obligations.now) provider quarter) 1) (O.Q.tenths_in (held_at O.Q.measure (B.holdings bids.now) provider quarter) 1) ∷ [])))))) not_in_stage }
 {
     let day = day_of(stage).ok_or(NotCalled::NotInThisStage)?;
     let missing = missing_volume(day, obligations, bids, sheet, provider, quarter)?;
@@ -68,7 +68,7 @@ pub fn status_step<Q: Quantity, L: Records<Record = Request<Q::Row>>>(
     requests: &L,
     place: usize,
 ) -> Result<Answer<Q>, NotDone>
-    ensures { said result ≡ once_opened stage.now (λ day. unless (status_refusal (slice_get (L.Records.contents requests.now) place)) (numbered (0 ∷ (7 ∷ status_number (status_of (slice_get (L.Records.contents requests.now) place)))))) not_in_stage }
+    ensures { said result ≡ once_opened stage.now (λ day. unless (status_refusal (slice_get (L.contents requests.now) place)) (numbered (0 ∷ (7 ∷ status_number (status_of (slice_get (L.contents requests.now) place)))))) not_in_stage }
 {
     day_of(stage).ok_or(NotCalled::NotInThisStage)?;
     let status = request_status(requests, place)?;

@@ -18,9 +18,9 @@ pub fn announce_step<Q: Quantity, L: Records<Record = Request<Q::Row>>>(
     requests: &mut L,
     said: Announcement<Q>,
 ) -> Result<Answer<Q>, NotDone>
-    ensures answer { saying result ≡ before_gate stage.old (λ gate day. unless (announce_refusal Q.Quantity.measure day (joining_before gate) said (L.Records.contents requests.old) (L.Records.places requests.old)) (numbered (0 ∷ (3 ∷ (announcement_place (joining_before gate) (L.Records.contents requests.old) said.passage ∷ []))))) not_in_stage }
-    ensures stage { stage.new ≡ before_gate stage.old (λ gate day. same_stage gate (announced_day day said (announce_refusal Q.Quantity.measure day (joining_before gate) said (L.Records.contents requests.old) (L.Records.places requests.old)))) stage.old }
-    ensures requests { ListBecomes L.Records.contents L.Records.places requests.old requests.new (before_gate stage.old (λ gate day. announced_list Q.Quantity.measure day (joining_before gate) said (L.Records.contents requests.old) (L.Records.places requests.old)) (L.Records.contents requests.old)) }
+    ensures answer { saying result ≡ before_gate stage.old (λ gate day. unless (announce_refusal Q.measure day (joining_before gate) said (L.contents requests.old) (L.places requests.old)) (numbered (0 ∷ (3 ∷ (announcement_place (joining_before gate) (L.contents requests.old) said.passage ∷ []))))) not_in_stage }
+    ensures stage { stage.new ≡ before_gate stage.old (λ gate day. same_stage gate (announced_day day said (announce_refusal Q.measure day (joining_before gate) said (L.contents requests.old) (L.places requests.old)))) stage.old }
+    ensures requests { ListBecomes L.contents L.places requests.old requests.new (before_gate stage.old (λ gate day. announced_list Q.measure day (joining_before gate) said (L.contents requests.old) (L.places requests.old)) (L.contents requests.old)) }
 {
     let place = match stage {
         Stage::Announcing(first) => first.announce(requests, said)?,

@@ -25,8 +25,8 @@ impl<'a, K: Quantity> FullBook<'a, K> {
     /// A book with every holding zero, whatever the rows told.
     #[tactic(auto, using(crate::proofs::Tables::blank_empty))]
     pub fn blank(rows: &'a mut [K::Row]) -> FullBook<'a, K>
-        ensures rows { result.rows.now ≡ blanked K.Quantity.measure rows.old }
-        ensures empty { amounts K.Quantity.measure (rows_held K.Quantity.measure result.rows.now) ≡ (λ _ _. K.Quantity.measure.none) }
+        ensures rows { result.rows.now ≡ blanked K.measure rows.old }
+        ensures empty { amounts K.measure (rows_held K.measure result.rows.now) ≡ (λ _ _. K.measure.none) }
         ensures lender { result.rows.ghost_name ≡ rows.entry.ghost_name }
     {
         rows::blank::<K>(rows);

@@ -31,8 +31,8 @@ impl<M: Slots<Slot = K::Row>, K: Quantity> RowBook<M, K> {
         new: Option<K>,
         refusal: BookRefusal,
     ) -> Result<(), BookRefusal>
-        ensures answer { result_err result ≡ change_refusal K.Quantity.measure (rows_held K.Quantity.measure (M.slots self.old.rows)) (rows_places (M.slots self.old.rows)) refusal (everything at.provider at.quarter) at.provider at.quarter new }
-        ensures after { amounts K.Quantity.measure (rows_held K.Quantity.measure (M.slots self.new.rows)) ≡ changed K.Quantity.measure (rows_held K.Quantity.measure (M.slots self.old.rows)) at.provider at.quarter (result_err result) new }
+        ensures answer { result_err result ≡ change_refusal K.measure (rows_held K.measure (M.slots self.old.rows)) (rows_places (M.slots self.old.rows)) refusal (everything at.provider at.quarter) at.provider at.quarter new }
+        ensures after { amounts K.measure (rows_held K.measure (M.slots self.new.rows)) ≡ changed K.measure (rows_held K.measure (M.slots self.old.rows)) at.provider at.quarter (result_err result) new }
         ensures places { rows_places (M.slots self.new.rows) ≡ rows_places (M.slots self.old.rows) }
         ensures beyond { drop 3200 (M.slots self.new.rows) ≡ drop 3200 (M.slots self.old.rows) }
         ensures lender { M.loan self.new.rows ≡ M.loan self.old.rows }
@@ -53,7 +53,7 @@ impl<M: Slots<Slot = K::Row>, K: Quantity> RowBook<M, K> {
 impl<M: Slots<Slot = K::Row>, K: Quantity> Book for RowBook<M, K> {
     type Q = K;
 
-    ghost holdings = { λ s. rows_held K.Quantity.measure (M.slots s.rows) };
+    ghost holdings = { λ s. rows_held K.measure (M.slots s.rows) };
 
     ghost places = { λ s. rows_places (M.slots s.rows) };
 
@@ -80,8 +80,8 @@ impl<M: Slots<Slot = K::Row>, K: Quantity> Book for RowBook<M, K> {
     // The interface's promises once more, and two of this book's own: rows beyond 3,200 stay, and so does the loan.
     #[tactic(auto, using(book::proofs::Changes::raise_outside, book::proofs::Changes::raise_outside_after, book::proofs::Changes::raise_answer, book::proofs::Changes::raise_after))]
     fn raise(&mut self, provider: u8, quarter: u8, quantity: K) -> Result<(), BookRefusal>
-        ensures answer { answer_number (result_err result) ≡ answer_number (raise_refusal K.Quantity.measure (rows_held K.Quantity.measure (M.slots self.old.rows)) (rows_places (M.slots self.old.rows)) everything provider quarter quantity) }
-        ensures after { amounts K.Quantity.measure (rows_held K.Quantity.measure (M.slots self.new.rows)) ≡ raised K.Quantity.measure (rows_held K.Quantity.measure (M.slots self.old.rows)) (rows_places (M.slots self.old.rows)) everything provider quarter quantity }
+        ensures answer { answer_number (result_err result) ≡ answer_number (raise_refusal K.measure (rows_held K.measure (M.slots self.old.rows)) (rows_places (M.slots self.old.rows)) everything provider quarter quantity) }
+        ensures after { amounts K.measure (rows_held K.measure (M.slots self.new.rows)) ≡ raised K.measure (rows_held K.measure (M.slots self.old.rows)) (rows_places (M.slots self.old.rows)) everything provider quarter quantity }
         ensures rest { ChangesHoldings (λ s. rows_places (M.slots s.rows)) (λ _. everything {Q = K}) (λ _. 0) self.old self.new }
         ensures beyond { drop 3200 (M.slots self.new.rows) ≡ drop 3200 (M.slots self.old.rows) }
         ensures lender { M.loan self.new.rows ≡ M.loan self.old.rows }
@@ -93,8 +93,8 @@ impl<M: Slots<Slot = K::Row>, K: Quantity> Book for RowBook<M, K> {
 
     #[tactic(auto, using(book::proofs::Changes::lower_outside, book::proofs::Changes::lower_outside_after, book::proofs::Changes::lower_answer, book::proofs::Changes::lower_after))]
     fn lower(&mut self, provider: u8, quarter: u8, quantity: K) -> Result<(), BookRefusal>
-        ensures answer { answer_number (result_err result) ≡ answer_number (lower_refusal K.Quantity.measure (rows_held K.Quantity.measure (M.slots self.old.rows)) (rows_places (M.slots self.old.rows)) provider quarter quantity) }
-        ensures after { amounts K.Quantity.measure (rows_held K.Quantity.measure (M.slots self.new.rows)) ≡ lowered K.Quantity.measure (rows_held K.Quantity.measure (M.slots self.old.rows)) (rows_places (M.slots self.old.rows)) provider quarter quantity }
+        ensures answer { answer_number (result_err result) ≡ answer_number (lower_refusal K.measure (rows_held K.measure (M.slots self.old.rows)) (rows_places (M.slots self.old.rows)) provider quarter quantity) }
+        ensures after { amounts K.measure (rows_held K.measure (M.slots self.new.rows)) ≡ lowered K.measure (rows_held K.measure (M.slots self.old.rows)) (rows_places (M.slots self.old.rows)) provider quarter quantity }
         ensures rest { ChangesHoldings (λ s. rows_places (M.slots s.rows)) (λ _. everything {Q = K}) (λ _. 0) self.old self.new }
         ensures beyond { drop 3200 (M.slots self.new.rows) ≡ drop 3200 (M.slots self.old.rows) }
         ensures lender { M.loan self.new.rows ≡ M.loan self.old.rows }

@@ -22,7 +22,7 @@ pub(crate) fn place(at: Position) -> usize
 /// The holding, zero outside the range and where there are fewer than 3,200 rows.
 #[tactic(auto, using(std::proofs::lemmas::Bool::Decides::nat_tests, crate::proofs::Tables::told_few, crate::proofs::Tables::told_outside, crate::proofs::Tables::told_inside))]
 pub fn holding<K: Quantity>(rows: &[K::Row], provider: u8, quarter: u8) -> K
-    ensures { result ≡ held_at K.Quantity.measure (rows_held K.Quantity.measure rows.now) provider quarter }
+    ensures { result ≡ held_at K.measure (rows_held K.measure rows.now) provider quarter }
 {
     let Ok(at) = Position::new(provider, quarter) else {
         return K::zero();
@@ -35,7 +35,7 @@ pub fn holding<K: Quantity>(rows: &[K::Row], provider: u8, quarter: u8) -> K
 
 // How many of a provider's 100 holdings are zero.
 fn free_of<K: Quantity>(rows: &[K::Row], provider: u8) -> usize
-    ensures { result ≡ count_by (λ quarter. is_zero K.Quantity.measure (held_at K.Quantity.measure (rows_held K.Quantity.measure rows.now) provider quarter)) (range_with_len 0 100) }
+    ensures { result ≡ count_by (λ quarter. is_zero K.measure (held_at K.measure (rows_held K.measure rows.now) provider quarter)) (range_with_len 0 100) }
 {
     (0..100)
         .filter(|&quarter| holding::<K>(rows, provider, quarter).is_zero())
@@ -45,7 +45,7 @@ fn free_of<K: Quantity>(rows: &[K::Row], provider: u8) -> usize
 /// How many places are free: as many as there are zero holdings, or none where there are fewer than 3,200 rows.
 #[tactic(auto, using(std::proofs::lemmas::Bool::Decides::nat_tests, book::proofs::Counts::total_none, book::proofs::Counts::total_more, book::proofs::Counts::taken_is, crate::proofs::Tables::few_taken))]
 pub fn free<K: Quantity>(rows: &[K::Row]) -> usize
-    ensures { result + taken K.Quantity.measure (rows_held K.Quantity.measure rows.now) ≡ rows_places rows.now }
+    ensures { result + taken K.measure (rows_held K.measure rows.now) ≡ rows_places rows.now }
 {
     if rows.len() < 3200 {
         return 0;
@@ -62,7 +62,7 @@ pub fn free<K: Quantity>(rows: &[K::Row]) -> usize
 /// Makes the first 3,200 rows tell zero, and leaves fewer rows as they are.
 #[tactic(auto, using(std::proofs::lemmas::Bool::Decides::nat_tests), unfolding(crate::specs::Rows::blanked))]
 pub fn blank<K: Quantity>(rows: &mut [K::Row])
-    ensures { rows.new ≡ blanked K.Quantity.measure rows.old }
+    ensures { rows.new ≡ blanked K.measure rows.old }
 {
     if rows.len() >= 3200 {
         fill(&mut rows[..3200], K::zero().row());

@@ -13,7 +13,7 @@ pub type StoredFullBook<K> = RowBook<Vec<<K as Quantity>::Row>, K>;
 impl<K: Quantity> StoredFullBook<K> {
     /// A book of 3,200 places with every holding zero, or want of memory.
     pub fn new(heap: Global) -> Result<StoredFullBook<K>, AllocError>
-        ensures empty { IfOk result (λ b. amounts K.Quantity.measure (rows_held K.Quantity.measure b.rows.items) ≡ (λ _ _. K.Quantity.measure.none)) }
+        ensures empty { IfOk result (λ b. amounts K.measure (rows_held K.measure b.rows.items) ≡ (λ _ _. K.measure.none)) }
         ensures places { IfOk result (λ b. rows_places b.rows.items ≡ 3200) }
     {
         // No `vec!`, which clones: `Copy` does not promise that a clone is the same.

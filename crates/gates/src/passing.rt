@@ -17,7 +17,7 @@ use span_moves::spans::move_span;
 
 // The quantity that passes: what the giver announced last.
 fn passing_quantity<Q: Quantity>(giving: Option<Q::Row>) -> Q
-    ensures { result ≡ passing Q.Quantity.measure giving }
+    ensures { result ≡ passing Q.measure giving }
 {
     // Not `map_or`: the check does not cover a function passed there whose result alone names `Q`.
     match giving {
@@ -51,9 +51,9 @@ fn status_of_move(made: Result<(), Refusal>) -> Status
 // Makes the move of a balanced request, and tells how it stands then.
 // Its answer is that of all holdings of the same amounts.
 fn make_move<O: Book>(obligations: &mut O, request: Request<<O::Q as Quantity>::Row>) -> Status
-    ensures status { AlikeOver O.Q.Quantity.measure (O.Book.holdings obligations.old) (λ other. result ≡ outcome (cause O.Q.Quantity.measure (O.Book.places obligations.old) (O.Book.admission obligations.old) other request)) }
-    ensures after { AlikeOver O.Q.Quantity.measure (O.Book.holdings obligations.old) (λ other. amounts O.Q.Quantity.measure (O.Book.holdings obligations.new) ≡ amounts O.Q.Quantity.measure (moved_on O.Q.Quantity.measure (O.Book.places obligations.old) (O.Book.admission obligations.old) other request)) }
-    ensures rest { ChangesHoldings O.Book.places O.Book.admission O.Book.layer_number obligations.old obligations.new }
+    ensures status { AlikeOver O.Q.measure (O.holdings obligations.old) (λ other. result ≡ outcome (cause O.Q.measure (O.places obligations.old) (O.admission obligations.old) other request)) }
+    ensures after { AlikeOver O.Q.measure (O.holdings obligations.old) (λ other. amounts O.Q.measure (O.holdings obligations.new) ≡ amounts O.Q.measure (moved_on O.Q.measure (O.places obligations.old) (O.admission obligations.old) other request)) }
+    ensures rest { ChangesHoldings O.places O.admission O.layer_number obligations.old obligations.new }
 {
     let quantity = passing_quantity(request.giving);
     status_of_move(move_span(obligations, request.passage, quantity))
@@ -65,9 +65,9 @@ fn settle_request<O: Book>(
     gate: Gate,
     request: Request<<O::Q as Quantity>::Row>,
 ) -> Request<<O::Q as Quantity>::Row>
-    ensures request { AlikeOver O.Q.Quantity.measure (O.Book.holdings obligations.old) (λ other. result ≡ settled O.Q.Quantity.measure (O.Book.places obligations.old) (O.Book.admission obligations.old) gate other request) }
-    ensures after { AlikeOver O.Q.Quantity.measure (O.Book.holdings obligations.old) (λ other. amounts O.Q.Quantity.measure (O.Book.holdings obligations.new) ≡ amounts O.Q.Quantity.measure (passed_on O.Q.Quantity.measure (O.Book.places obligations.old) (O.Book.admission obligations.old) other request)) }
-    ensures rest { ChangesHoldings O.Book.places O.Book.admission O.Book.layer_number obligations.old obligations.new }
+    ensures request { AlikeOver O.Q.measure (O.holdings obligations.old) (λ other. result ≡ settled O.Q.measure (O.places obligations.old) (O.admission obligations.old) gate other request) }
+    ensures after { AlikeOver O.Q.measure (O.holdings obligations.old) (λ other. amounts O.Q.measure (O.holdings obligations.new) ≡ amounts O.Q.measure (passed_on O.Q.measure (O.places obligations.old) (O.admission obligations.old) other request)) }
+    ensures rest { ChangesHoldings O.places O.admission O.layer_number obligations.old obligations.new }
 {
     let status = match request.status {
         Status::BalanceOk => make_move(obligations, request),
@@ -83,10 +83,10 @@ fn settle_at<O: Book, L: Records<Record = Request<<O::Q as Quantity>::Row>>>(
     gate: Gate,
     place: usize,
 )
-    ensures requests { AlikeOver O.Q.Quantity.measure (O.Book.holdings obligations.old) (λ other. (L.Records.contents requests.new) ≡ changed_at (settled O.Q.Quantity.measure (O.Book.places obligations.old) (O.Book.admission obligations.old) gate other) (L.Records.contents requests.old) place) }
-    ensures after { AlikeOver O.Q.Quantity.measure (O.Book.holdings obligations.old) (λ other. amounts O.Q.Quantity.measure (O.Book.holdings obligations.new) ≡ amounts O.Q.Quantity.measure (passed_at O.Q.Quantity.measure (O.Book.places obligations.old) (O.Book.admission obligations.old) other (slice_get (L.Records.contents requests.old) place))) }
-    ensures rest { ChangesHoldings O.Book.places O.Book.admission O.Book.layer_number obligations.old obligations.new }
-    ensures room { L.Records.places requests.new ≡ L.Records.places requests.old }
+    ensures requests { AlikeOver O.Q.measure (O.holdings obligations.old) (λ other. L.contents requests.new ≡ changed_at (settled O.Q.measure (O.places obligations.old) (O.admission obligations.old) gate other) (L.contents requests.old) place) }
+    ensures after { AlikeOver O.Q.measure (O.holdings obligations.old) (λ other. amounts O.Q.measure (O.holdings obligations.new) ≡ amounts O.Q.measure (passed_at O.Q.measure (O.places obligations.old) (O.admission obligations.old) other (slice_get (L.contents requests.old) place))) }
+    ensures rest { ChangesHoldings O.places O.admission O.layer_number obligations.old obligations.new }
+    ensures room { L.places requests.new ≡ L.places requests.old }
 {
     if let Some(request) = requests.at(place) {
         let settled = settle_request(obligations, gate, request);
@@ -101,10 +101,10 @@ pub fn pass_gate<O: Book, L: Records<Record = Request<<O::Q as Quantity>::Row>>>
     requests: &mut L,
     gate: Gate,
 )
-    ensures requests { ListBecomes L.Records.contents L.Records.places requests.old requests.new (gated O.Q.Quantity.measure (O.Book.places obligations.old) (O.Book.admission obligations.old) gate (O.Book.holdings obligations.old) (L.Records.contents requests.old)) }
-    ensures after { amounts O.Q.Quantity.measure (O.Book.holdings obligations.new) ≡ amounts O.Q.Quantity.measure (after_moves O.Q.Quantity.measure (O.Book.places obligations.old) (O.Book.admission obligations.old) (O.Book.holdings obligations.old) (L.Records.contents requests.old)) }
-    ensures judged { Judged O.Q.Quantity.measure (O.Book.places obligations.old) (O.Book.admission obligations.old) gate (O.Book.holdings obligations.old) (L.Records.contents requests.old) (L.Records.contents requests.new) }
-    ensures rest { ChangesHoldings O.Book.places O.Book.admission O.Book.layer_number obligations.old obligations.new }
+    ensures requests { ListBecomes L.contents L.places requests.old requests.new (gated O.Q.measure (O.places obligations.old) (O.admission obligations.old) gate (O.holdings obligations.old) (L.contents requests.old)) }
+    ensures after { amounts O.Q.measure (O.holdings obligations.new) ≡ amounts O.Q.measure (after_moves O.Q.measure (O.places obligations.old) (O.admission obligations.old) (O.holdings obligations.old) (L.contents requests.old)) }
+    ensures judged { Judged O.Q.measure (O.places obligations.old) (O.admission obligations.old) gate (O.holdings obligations.old) (L.contents requests.old) (L.contents requests.new) }
+    ensures rest { ChangesHoldings O.places O.admission O.layer_number obligations.old obligations.new }
 {
     // By places: each turn changes the book and the list, so no iterator can lend the requests.
     for place in 0..requests.count() {

@@ -5,7 +5,7 @@ use quantity::reserve::ReserveQuantity;
 
 /// The theorem that a call which is performed as defined keeps the law, for every reserve quantity.
 pub fn law_is_kept<Q: ReserveQuantity>(q: Q) -> Q
-    ensures { Kept Q.Quantity.measure Q.ReserveQuantity.tenths_in Q.ReserveQuantity.directions }
+    ensures { Kept Q.measure Q.tenths_in Q.directions }
 {
     q
 }

@@ -49,13 +49,13 @@ where
 {
     type Q = B::Q;
 
-    ghost holdings = { λ s. B.Book.holdings s.below };
+    ghost holdings = { λ s. B.holdings s.below };
 
-    ghost places = { λ s. B.Book.places s.below };
+    ghost places = { λ s. B.places s.below };
 
-    ghost admission = { λ s. limited s.limits (next_layer (B.Book.layer_number s.below)) (B.Book.admission s.below) B.Q.ReserveQuantity.tenths_in };
+    ghost admission = { λ s. limited s.limits (next_layer (B.layer_number s.below)) (B.admission s.below) B.Q.tenths_in };
 
-    ghost layer_number = { λ s. next_layer (B.Book.layer_number s.below) };
+    ghost layer_number = { λ s. next_layer (B.layer_number s.below) };
 
     fn holding(&self, provider: u8, quarter: u8) -> B::Q {
         self.below.holding(provider, quarter)

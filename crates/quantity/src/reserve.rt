@@ -25,5 +25,5 @@ pub trait ReserveQuantity: Quantity {
 
     /// The tenths of the sum of these two, of whichever value stands for it, are the sums of their tenths.
     fn tenths_add_up(self, other: Self)
-        ensures { (s : Self) (d : ℕ) → Self.Quantity.measure.amount s ≡ Self.Quantity.measure.plus (Self.Quantity.measure.amount self) (Self.Quantity.measure.amount other) → tenths_in s d ≡ tenths_in self d + tenths_in other d };
+        ensures { (s : Self) (d : ℕ) → Self.measure.amount s ≡ Self.measure.plus (Self.measure.amount self) (Self.measure.amount other) → tenths_in s d ≡ tenths_in self d + tenths_in other d };
 }

@@ -22,7 +22,7 @@ fn join_request<Q: Quantity, L: Records<Record = Request<Q::Row>>>(
     side: Side,
     quantity: Q,
 )
-    ensures list { ListBecomes L.Records.contents L.Records.places list.old list.new (changed_at (spoken Q.Quantity.measure side (Q.Quantity.measure.row quantity)) (L.Records.contents list.old) place) }
+    ensures list { ListBecomes L.contents L.places list.old list.new (changed_at (spoken Q.measure side (Q.measure.row quantity)) (L.contents list.old) place) }
 {
     if let Some(request) = list.at(place) {
         list.replace(place, announced(request, side, quantity));
@@ -34,9 +34,9 @@ fn add_request<R: Copy, L: Records<Record = Request<R>>>(
     list: &mut L,
     request: Request<R>,
 ) -> Result<usize, Refusal>
-    ensures answer { result_err result ≡ addition_refusal (L.Records.contents list.old) (L.Records.places list.old) }
-    ensures place { IfOk result (λ p. p ≡ length (L.Records.contents list.old)) }
-    ensures list { ListBecomes L.Records.contents L.Records.places list.old list.new (added (L.Records.contents list.old) (L.Records.places list.old) request) }
+    ensures answer { result_err result ≡ addition_refusal (L.contents list.old) (L.places list.old) }
+    ensures place { IfOk result (λ p. p ≡ length (L.contents list.old)) }
+    ensures list { ListBecomes L.contents L.places list.old list.new (added (L.contents list.old) (L.places list.old) request) }
 {
     if list.count() >= MOST_REQUESTS {
         return Err(Refusal::NoPlaceInList);
@@ -52,9 +52,9 @@ pub fn put_announcement<Q: Quantity, L: Records<Record = Request<Q::Row>>>(
     joining: Joining,
     said: Announcement<Q>,
 ) -> Result<usize, Refusal>
-    ensures answer { result_err result ≡ announcement_refusal joining (L.Records.contents list.old) (L.Records.places list.old) said.passage }
-    ensures place { IfOk result (λ p. p ≡ announcement_place joining (L.Records.contents list.old) said.passage) }
-    ensures list { ListBecomes L.Records.contents L.Records.places list.old list.new (announcement_list Q.Quantity.measure joining (L.Records.contents list.old) (L.Records.places list.old) said.side said.passage said.quantity) }
+    ensures answer { result_err result ≡ announcement_refusal joining (L.contents list.old) (L.places list.old) said.passage }
+    ensures place { IfOk result (λ p. p ≡ announcement_place joining (L.contents list.old) said.passage) }
+    ensures list { ListBecomes L.contents L.places list.old list.new (announcement_list Q.measure joining (L.contents list.old) (L.places list.old) said.side said.passage said.quantity) }
 {
     if let Some(place) = find_request(list, joining, said.passage) {
         join_request(list, place, said.side, said.quantity);

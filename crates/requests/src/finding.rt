@@ -33,7 +33,7 @@ fn is_match<R: Copy, L: Records<Record = Request<R>>>(
     joining: Joining,
     passage: Passage,
 ) -> bool
-    ensures { result ≡ holds_of (matching joining passage) (slice_get (L.Records.contents list.now) place) }
+    ensures { result ≡ holds_of (matching joining passage) (slice_get (L.contents list.now) place) }
 {
     list.at(place).is_some_and(|request| {
         request.passage == passage && may_join(joining, request.status)
@@ -46,7 +46,7 @@ pub fn find_request<R: Copy, L: Records<Record = Request<R>>>(
     joining: Joining,
     passage: Passage,
 ) -> Option<usize>
-    ensures { result ≡ position (matching joining passage) (L.Records.contents list.now) }
+    ensures { result ≡ position (matching joining passage) (L.contents list.now) }
 {
     (0..list.count()).find(|&place| is_match(list, place, joining, passage))
 }

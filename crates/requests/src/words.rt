@@ -6,7 +6,7 @@ use quantity::interface::Quantity;
 
 /// The status of what both sides said.
 pub fn balance_of<Q: Quantity>(giving: Option<Q::Row>, taking: Option<Q::Row>) -> Status
-    ensures { result ≡ balance Q.Quantity.measure giving taking }
+    ensures { result ≡ balance Q.measure giving taking }
 {
     let (Some(given), Some(taken)) = (giving, taking) else {
         return Status::WaitingForCounterpart;
@@ -20,7 +20,7 @@ pub fn balance_of<Q: Quantity>(giving: Option<Q::Row>, taking: Option<Q::Row>) -
 
 /// The request after a side has announced a quantity: a later word replaces the earlier one of that side.
 pub fn announced<Q: Quantity>(request: Request<Q::Row>, side: Side, quantity: Q) -> Request<Q::Row>
-    ensures { result ≡ spoken Q.Quantity.measure side (Q.Quantity.measure.row quantity) request }
+    ensures { result ≡ spoken Q.measure side (Q.measure.row quantity) request }
 {
     let word = Some(quantity.row());
     let (giving, taking) = match side {

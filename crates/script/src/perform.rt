@@ -10,9 +10,9 @@ use span_moves::spans::move_span;
 
 /// Makes one call of a book.
 pub fn perform<B: Book>(book: &mut B, call: Call<B::Q>) -> Result<Answer<B::Q>, NotDone>
-    ensures answer { said result ≡ answered B.Q.Quantity.measure (B.Book.holdings book.old) (B.Book.places book.old) (B.Book.admission book.old) call }
-    ensures after { amounts B.Q.Quantity.measure (B.Book.holdings book.new) ≡ after B.Q.Quantity.measure (B.Book.holdings book.old) (B.Book.places book.old) (B.Book.admission book.old) call }
-    ensures rest { ChangesHoldings B.Book.places B.Book.admission B.Book.layer_number book.old book.new }
+    ensures answer { said result ≡ answered B.Q.measure (B.holdings book.old) (B.places book.old) (B.admission book.old) call }
+    ensures after { amounts B.Q.measure (B.holdings book.new) ≡ after B.Q.measure (B.holdings book.old) (B.places book.old) (B.admission book.old) call }
+    ensures rest { ChangesHoldings B.places B.admission B.layer_number book.old book.new }
 {
     match call {
         Call::Raise {

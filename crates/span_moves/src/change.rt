@@ -22,7 +22,7 @@ pub enum Change {
 impl Change {
     /// What a holding becomes.
     pub fn next<Q: Quantity>(self, held: Q, quantity: Q) -> Option<Q>
-        ensures { result ≡ next Q.Quantity.measure self held quantity }
+        ensures { result ≡ next Q.measure self held quantity }
     {
         match self {
             Change::Lowering => held.remainder(quantity),
@@ -43,8 +43,8 @@ impl Change {
 
     /// Whether the book admits what a holding becomes: only what is raised has to be admitted.
     pub fn admits<B: Book>(self, book: &B, at: Position, changed: B::Q) -> Result<(), Cause>
-        ensures value { result_err result ≡ asked (B.Book.admission book.now) self at.provider at.quarter changed }
-        ensures alike { (other : B.Q) → B.Q.Quantity.measure.amount other ≡ B.Q.Quantity.measure.amount changed → asked (B.Book.admission book.now) self at.provider at.quarter other ≡ asked (B.Book.admission book.now) self at.provider at.quarter changed }
+        ensures value { result_err result ≡ asked (B.admission book.now) self at.provider at.quarter changed }
+        ensures alike { (other : B.Q) → B.Q.measure.amount other ≡ B.Q.measure.amount changed → asked (B.admission book.now) self at.provider at.quarter other ≡ asked (B.admission book.now) self at.provider at.quarter changed }
     {
         match self {
             Change::Lowering => Ok(()),
@@ -54,8 +54,8 @@ impl Change {
 
     /// Changes one holding, if the book does not refuse it.
     pub fn apply<B: Book>(self, book: &mut B, at: Position, quantity: B::Q)
-        ensures after { amounts B.Q.Quantity.measure (B.Book.holdings book.new) ≡ changed_one B.Q.Quantity.measure (B.Book.holdings book.old) (B.Book.places book.old) (B.Book.admission book.old) self at.provider at.quarter quantity }
-        ensures rest { ChangesHoldings B.Book.places B.Book.admission B.Book.layer_number book.old book.new }
+        ensures after { amounts B.Q.measure (B.holdings book.new) ≡ changed_one B.Q.measure (B.holdings book.old) (B.places book.old) (B.admission book.old) self at.provider at.quarter quantity }
+        ensures rest { ChangesHoldings B.places B.admission B.layer_number book.old book.new }
     {
         let _ = match self {
             Change::Lowering => book.lower(at.provider, at.quarter, quantity),

@@ -52,7 +52,7 @@ impl<Q: Quantity> SpanChange<Q> {
 
     /// Refuses the first quarter in which the changed holding does not fit.
     pub fn check_fits<B: Book<Q = Q>>(self, book: &B) -> Result<(), Refusal>
-        ensures { result_err result ≡ first_of (unfit Q.Quantity.measure (B.Book.holdings book.now) self.change self.provider.number self.quantity) self.span.first (count self.span.first self.span.last) }
+        ensures { result_err result ≡ first_of (unfit Q.measure (B.holdings book.now) self.change self.provider.number self.quantity) self.span.first (count self.span.first self.span.last) }
     {
         for quarter in self.span.first..=self.span.last {
             let at = self.at(quarter);
@@ -64,7 +64,7 @@ impl<Q: Quantity> SpanChange<Q> {
 
     // Refuses a change of one holding to what is not admitted.
     fn check_one<B: Book<Q = Q>>(self, book: &B, at: Position) -> Result<(), Refusal>
-        ensures { Alike Q.Quantity.measure (B.Book.holdings book.now) self.quantity (λ other q. unwelcome Q.Quantity.measure other (B.Book.places book.now) (B.Book.admission book.now) self.change at.provider q at.quarter) (result_err result) }
+        ensures { Alike Q.measure (B.holdings book.now) self.quantity (λ other q. unwelcome Q.measure other (B.places book.now) (B.admission book.now) self.change at.provider q at.quarter) (result_err result) }
     {
         let Position { provider, quarter } = at;
         let Some(changed) = self.change.next(held(book, at), self.quantity) else {
@@ -82,7 +82,7 @@ impl<Q: Quantity> SpanChange<Q> {
     /// Refuses the first quarter in which the changed holding is not admitted.
     /// All holdings and quantities of the same amounts are answered alike.
     pub fn check_admitted<B: Book<Q = Q>>(self, book: &B) -> Result<(), Refusal>
-        ensures { Alike Q.Quantity.measure (B.Book.holdings book.now) self.quantity (λ other q. first_of (unwelcome Q.Quantity.measure other (B.Book.places book.now) (B.Book.admission book.now) self.change self.provider.number q) self.span.first (count self.span.first self.span.last)) (result_err result) }
+        ensures { Alike Q.measure (B.holdings book.now) self.quantity (λ other q. first_of (unwelcome Q.measure other (B.places book.now) (B.admission book.now) self.change self.provider.number q) self.span.first (count self.span.first self.span.last)) (result_err result) }
     {
         for quarter in self.span.first..=self.span.last {
             self.check_one(book, self.at(quarter))?;
@@ -94,7 +94,7 @@ impl<Q: Quantity> SpanChange<Q> {
     /// A count of 128 bits cannot overflow, however many places a book has.
     pub fn count_places<B: Book<Q = Q>>(self, book: &B, free: u128) -> Option<u128>
         requires { free < 2 ^ 65 }
-        ensures { result ≡ left_after Q.Quantity.measure (B.Book.holdings book.now) self.change self.provider.number self.quantity (Some free) self.span.first (count self.span.first self.span.last) }
+        ensures { result ≡ left_after Q.measure (B.holdings book.now) self.change self.provider.number self.quantity (Some free) self.span.first (count self.span.first self.span.last) }
     {
         let mut left = free;
         for quarter in self.span.first..=self.span.last {
@@ -107,8 +107,8 @@ impl<Q: Quantity> SpanChange<Q> {
 
     /// Refuses a change of which the book cannot take every quarter.
     pub fn check<B: Book<Q = Q>>(self, book: &B) -> Result<(), Refusal>
-        ensures alike { Alike Q.Quantity.measure (B.Book.holdings book.now) self.quantity (λ other q. change_checks Q.Quantity.measure other (B.Book.places book.now) (B.Book.admission book.now) self.change self.provider.number self.span.first self.span.last q) (result_err result) }
-        ensures ready { OnOk result (Ready Q.Quantity.measure (B.Book.holdings book.now) (B.Book.places book.now) (B.Book.admission book.now) self.change self.provider.number self.span.first self.span.last self.quantity) }
+        ensures alike { Alike Q.measure (B.holdings book.now) self.quantity (λ other q. change_checks Q.measure other (B.places book.now) (B.admission book.now) self.change self.provider.number self.span.first self.span.last q) (result_err result) }
+        ensures ready { OnOk result (Ready Q.measure (B.holdings book.now) (B.places book.now) (B.admission book.now) self.change self.provider.number self.span.first self.span.last self.quantity) }
     {
         self.check_fits(book)?;
         self.check_admitted(book)?;
@@ -119,11 +119,11 @@ impl<Q: Quantity> SpanChange<Q> {
 
     /// Changes every holding of the span.
     pub fn apply<B: Book<Q = Q>>(self, book: &mut B)
-        requires { Ready Q.Quantity.measure (B.Book.holdings book.old) (B.Book.places book.old) (B.Book.admission book.old) self.change self.provider.number self.span.first self.span.last self.quantity }
-        ensures after { amounts Q.Quantity.measure (B.Book.holdings book.new) ≡ spanned Q.Quantity.measure (B.Book.holdings book.old) self.change self.provider.number self.quantity self.span.first (self.span.last + 1) }
-        ensures left { left_after Q.Quantity.measure (B.Book.holdings book.old) self.change self.provider.number self.quantity (Some (B.Book.places book.old - taken Q.Quantity.measure (B.Book.holdings book.old))) self.span.first (count self.span.first self.span.last) ≡ Some (B.Book.places book.old - taken Q.Quantity.measure (B.Book.holdings book.new)) }
-        ensures bound { taken Q.Quantity.measure (B.Book.holdings book.new) ≤ B.Book.places book.old }
-        ensures rest { ChangesHoldings B.Book.places B.Book.admission B.Book.layer_number book.old book.new }
+        requires { Ready Q.measure (B.holdings book.old) (B.places book.old) (B.admission book.old) self.change self.provider.number self.span.first self.span.last self.quantity }
+        ensures after { amounts Q.measure (B.holdings book.new) ≡ spanned Q.measure (B.holdings book.old) self.change self.provider.number self.quantity self.span.first (self.span.last + 1) }
+        ensures left { left_after Q.measure (B.holdings book.old) self.change self.provider.number self.quantity (Some (B.places book.old - taken Q.measure (B.holdings book.old))) self.span.first (count self.span.first self.span.last) ≡ Some (B.places book.old - taken Q.measure (B.holdings book.new)) }
+        ensures bound { taken Q.measure (B.holdings book.new) ≤ B.places book.old }
+        ensures rest { ChangesHoldings B.places B.admission B.layer_number book.old book.new }
     {
         for quarter in self.span.first..=self.span.last {
             self.change.apply(book, self.at(quarter), self.quantity);
@@ -133,7 +133,7 @@ impl<Q: Quantity> SpanChange<Q> {
 
 // What is held at a position.
 fn held<B: Book>(book: &B, at: Position) -> B::Q
-    ensures { result ≡ B.Book.holdings book.now at.provider at.quarter }
+    ensures { result ≡ B.holdings book.now at.provider at.quarter }
 {
     book.holding(at.provider, at.quarter)
 }

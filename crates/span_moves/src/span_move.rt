@@ -59,8 +59,8 @@ impl<Q: Quantity> SpanMove<Q> {
 
     /// Refuses a move of which the book cannot take every quarter. All lowerings come before all raisings.
     pub fn check<B: Book<Q = Q>>(&self, book: &B) -> Result<(), Refusal>
-        ensures alike { Alike Q.Quantity.measure (B.Book.holdings book.now) self.now.quantity (λ other q. move_checks Q.Quantity.measure other (B.Book.places book.now) (B.Book.admission book.now) self.now.giver.number self.now.taker.number self.now.span.first self.now.span.last q) (result_err result) }
-        ensures ready { OnOk result (ReadyToMove Q.Quantity.measure (B.Book.holdings book.now) (B.Book.places book.now) (B.Book.admission book.now) self.now.giver.number self.now.taker.number self.now.span.first self.now.span.last self.now.quantity) }
+        ensures alike { Alike Q.measure (B.holdings book.now) self.now.quantity (λ other q. move_checks Q.measure other (B.places book.now) (B.admission book.now) self.now.giver.number self.now.taker.number self.now.span.first self.now.span.last q) (result_err result) }
+        ensures ready { OnOk result (ReadyToMove Q.measure (B.holdings book.now) (B.places book.now) (B.admission book.now) self.now.giver.number self.now.taker.number self.now.span.first self.now.span.last self.now.quantity) }
     {
         let lowering = self.change(Change::Lowering, self.giver);
         let raising = self.change(Change::Raising, self.taker);
@@ -79,9 +79,9 @@ impl<Q: Quantity> SpanMove<Q> {
 
     /// Lowers every holding of the giver, then raises every holding of the taker.
     pub fn apply<B: Book<Q = Q>>(self, book: &mut B)
-        requires { ReadyToMove Q.Quantity.measure (B.Book.holdings book.old) (B.Book.places book.old) (B.Book.admission book.old) self.giver.number self.taker.number self.span.first self.span.last self.quantity }
-        ensures after { amounts Q.Quantity.measure (B.Book.holdings book.new) ≡ moved Q.Quantity.measure (B.Book.holdings book.old) self.giver.number self.taker.number self.quantity self.span.first (self.span.last + 1) }
-        ensures rest { ChangesHoldings B.Book.places B.Book.admission B.Book.layer_number book.old book.new }
+        requires { ReadyToMove Q.measure (B.holdings book.old) (B.places book.old) (B.admission book.old) self.giver.number self.taker.number self.span.first self.span.last self.quantity }
+        ensures after { amounts Q.measure (B.holdings book.new) ≡ moved Q.measure (B.holdings book.old) self.giver.number self.taker.number self.quantity self.span.first (self.span.last + 1) }
+        ensures rest { ChangesHoldings B.places B.admission B.layer_number book.old book.new }
     {
         self.change(Change::Lowering, self.giver).apply(book);
         self.change(Change::Raising, self.taker).apply(book);

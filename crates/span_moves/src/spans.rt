@@ -21,10 +21,10 @@ fn change_span<B: Book>(
     span: ProviderSpan,
     quantity: B::Q,
 ) -> Result<(), Refusal>
-    ensures answer { answer_number (result_err result) ≡ answer_number (span_refusal B.Q.Quantity.measure (B.Book.holdings book.old) (B.Book.places book.old) (B.Book.admission book.old) change span.provider span.first span.last quantity) }
-    ensures alike { Alike B.Q.Quantity.measure (B.Book.holdings book.old) quantity (λ other q. span_refusal B.Q.Quantity.measure other (B.Book.places book.old) (B.Book.admission book.old) change span.provider span.first span.last q) (result_err result) }
-    ensures after { amounts B.Q.Quantity.measure (B.Book.holdings book.new) ≡ span_after B.Q.Quantity.measure (B.Book.holdings book.old) (B.Book.places book.old) (B.Book.admission book.old) change span.provider span.first span.last quantity }
-    ensures rest { ChangesHoldings B.Book.places B.Book.admission B.Book.layer_number book.old book.new }
+    ensures answer { answer_number (result_err result) ≡ answer_number (span_refusal B.Q.measure (B.holdings book.old) (B.places book.old) (B.admission book.old) change span.provider span.first span.last quantity) }
+    ensures alike { Alike B.Q.measure (B.holdings book.old) quantity (λ other q. span_refusal B.Q.measure other (B.places book.old) (B.admission book.old) change span.provider span.first span.last q) (result_err result) }
+    ensures after { amounts B.Q.measure (B.holdings book.new) ≡ span_after B.Q.measure (B.holdings book.old) (B.places book.old) (B.admission book.old) change span.provider span.first span.last quantity }
+    ensures rest { ChangesHoldings B.places B.admission B.layer_number book.old book.new }
 {
     let planned = SpanChange::new(change, span, quantity)?;
     planned.check(book)?;
@@ -36,20 +36,20 @@ fn change_span<B: Book>(
 
 /// Raises every holding of a span by the quantity, or changes nothing and says why.
 pub fn raise_span<B: Book>(book: &mut B, span: ProviderSpan, quantity: B::Q) -> Result<(), Refusal>
-    ensures answer { answer_number (result_err result) ≡ answer_number (span_refusal B.Q.Quantity.measure (B.Book.holdings book.old) (B.Book.places book.old) (B.Book.admission book.old) Raising span.provider span.first span.last quantity) }
-    ensures alike { Alike B.Q.Quantity.measure (B.Book.holdings book.old) quantity (λ other q. span_refusal B.Q.Quantity.measure other (B.Book.places book.old) (B.Book.admission book.old) Raising span.provider span.first span.last q) (result_err result) }
-    ensures after { amounts B.Q.Quantity.measure (B.Book.holdings book.new) ≡ span_after B.Q.Quantity.measure (B.Book.holdings book.old) (B.Book.places book.old) (B.Book.admission book.old) Raising span.provider span.first span.last quantity }
-    ensures rest { ChangesHoldings B.Book.places B.Book.admission B.Book.layer_number book.old book.new }
+    ensures answer { answer_number (result_err result) ≡ answer_number (span_refusal B.Q.measure (B.holdings book.old) (B.places book.old) (B.admission book.old) Raising span.provider span.first span.last quantity) }
+    ensures alike { Alike B.Q.measure (B.holdings book.old) quantity (λ other q. span_refusal B.Q.measure other (B.places book.old) (B.admission book.old) Raising span.provider span.first span.last q) (result_err result) }
+    ensures after { amounts B.Q.measure (B.holdings book.new) ≡ span_after B.Q.measure (B.holdings book.old) (B.places book.old) (B.admission book.old) Raising span.provider span.first span.last quantity }
+    ensures rest { ChangesHoldings B.places B.admission B.layer_number book.old book.new }
 {
     change_span(book, Change::Raising, span, quantity)
 }
 
 /// Lowers every holding of a span by the quantity, or changes nothing and says why.
 pub fn lower_span<B: Book>(book: &mut B, span: ProviderSpan, quantity: B::Q) -> Result<(), Refusal>
-    ensures answer { answer_number (result_err result) ≡ answer_number (span_refusal B.Q.Quantity.measure (B.Book.holdings book.old) (B.Book.places book.old) (B.Book.admission book.old) Lowering span.provider span.first span.last quantity) }
-    ensures alike { Alike B.Q.Quantity.measure (B.Book.holdings book.old) quantity (λ other q. span_refusal B.Q.Quantity.measure other (B.Book.places book.old) (B.Book.admission book.old) Lowering span.provider span.first span.last q) (result_err result) }
-    ensures after { amounts B.Q.Quantity.measure (B.Book.holdings book.new) ≡ span_after B.Q.Quantity.measure (B.Book.holdings book.old) (B.Book.places book.old) (B.Book.admission book.old) Lowering span.provider span.first span.last quantity }
-    ensures rest { ChangesHoldings B.Book.places B.Book.admission B.Book.layer_number book.old book.new }
+    ensures answer { answer_number (result_err result) ≡ answer_number (span_refusal B.Q.measure (B.holdings book.old) (B.places book.old) (B.admission book.old) Lowering span.provider span.first span.last quantity) }
+    ensures alike { Alike B.Q.measure (B.holdings book.old) quantity (λ other q. span_refusal B.Q.measure other (B.places book.old) (B.admission book.old) Lowering span.provider span.first span.last q) (result_err result) }
+    ensures after { amounts B.Q.measure (B.holdings book.new) ≡ span_after B.Q.measure (B.holdings book.old) (B.places book.old) (B.admission book.old) Lowering span.provider span.first span.last quantity }
+    ensures rest { ChangesHoldings B.places B.admission B.layer_number book.old book.new }
 {
     change_span(book, Change::Lowering, span, quantity)
 }
@@ -57,11 +57,11 @@ pub fn lower_span<B: Book>(book: &mut B, span: ProviderSpan, quantity: B::Q) -> 
 /// Moves the quantity from the giver to the taker in every quarter of a span, or changes nothing and says why.
 /// All lowerings come before all raisings.
 pub fn move_span<B: Book>(book: &mut B, passage: Passage, quantity: B::Q) -> Result<(), Refusal>
-    ensures answer { answer_number (result_err result) ≡ answer_number (move_refusal B.Q.Quantity.measure (B.Book.holdings book.old) (B.Book.places book.old) (B.Book.admission book.old) passage.giver passage.taker passage.first passage.last quantity) }
-    ensures alike { Alike B.Q.Quantity.measure (B.Book.holdings book.old) quantity (λ other q. move_refusal B.Q.Quantity.measure other (B.Book.places book.old) (B.Book.admission book.old) passage.giver passage.taker passage.first passage.last q) (result_err result) }
-    ensures after { amounts B.Q.Quantity.measure (B.Book.holdings book.new) ≡ move_after B.Q.Quantity.measure (B.Book.holdings book.old) (B.Book.places book.old) (B.Book.admission book.old) passage.giver passage.taker passage.first passage.last quantity }
-    ensures passed { OnOk result (Passed B.Q.Quantity.measure (amounts B.Q.Quantity.measure (B.Book.holdings book.old)) (amounts B.Q.Quantity.measure (B.Book.holdings book.new)) passage.giver passage.taker passage.first passage.last (B.Q.Quantity.measure.amount quantity)) }
-    ensures rest { ChangesHoldings B.Book.places B.Book.admission B.Book.layer_number book.old book.new }
+    ensures answer { answer_number (result_err result) ≡ answer_number (move_refusal B.Q.measure (B.holdings book.old) (B.places book.old) (B.admission book.old) passage.giver passage.taker passage.first passage.last quantity) }
+    ensures alike { Alike B.Q.measure (B.holdings book.old) quantity (λ other q. move_refusal B.Q.measure other (B.places book.old) (B.admission book.old) passage.giver passage.taker passage.first passage.last q) (result_err result) }
+    ensures after { amounts B.Q.measure (B.holdings book.new) ≡ move_after B.Q.measure (B.holdings book.old) (B.places book.old) (B.admission book.old) passage.giver passage.taker passage.first passage.last quantity }
+    ensures passed { OnOk result (Passed B.Q.measure (amounts B.Q.measure (B.holdings book.old)) (amounts B.Q.measure (B.holdings book.new)) passage.giver passage.taker passage.first passage.last (B.Q.measure.amount quantity)) }
+    ensures rest { ChangesHoldings B.places B.admission B.layer_number book.old book.new }
 {
     let planned = SpanMove::new(passage, quantity)?;
     planned.check(book)?;

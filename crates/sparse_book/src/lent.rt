@@ -15,7 +15,7 @@ impl<'a, K: Quantity> SparseBook<'a, K> {
     /// A book with every holding zero, whatever the records told: each slot is free.
     pub fn blank(slots: &'a mut [Option<Record<K::Row>>]) -> SparseBook<'a, K>
         ensures slots { result.slots.slots.now ≡ map (λ _. None) slots.old }
-        ensures empty { amounts K.Quantity.measure (records_held K.Quantity.measure result.slots.slots.now) ≡ (λ _ _. K.Quantity.measure.none) }
+        ensures empty { amounts K.measure (records_held K.measure result.slots.slots.now) ≡ (λ _ _. K.measure.none) }
         ensures places { length result.slots.slots.now ≡ length slots.old }
         ensures lender { result.slots.slots.ghost_name ≡ slots.entry.ghost_name }
     {

@@ -32,9 +32,9 @@ impl<M: Slots<Slot = Option<Record<K::Row>>>, K: Quantity> RecordBook<M, K> {
         new: Option<K>,
         refusal: BookRefusal,
     ) -> Result<(), BookRefusal>
-        ensures answer { result_err result ≡ change_refusal K.Quantity.measure (records_held K.Quantity.measure (M.slots self.old.slots)) (length (M.slots self.old.slots)) refusal (everything at.provider at.quarter) at.provider at.quarter new }
-        ensures slots { M.slots self.new.slots ≡ changed_slots K.Quantity.measure (M.slots self.old.slots) at.provider at.quarter (result_err result) new }
-        ensures after { amounts K.Quantity.measure (records_held K.Quantity.measure (M.slots self.new.slots)) ≡ changed K.Quantity.measure (records_held K.Quantity.measure (M.slots self.old.slots)) at.provider at.quarter (result_err result) new }
+        ensures answer { result_err result ≡ change_refusal K.measure (records_held K.measure (M.slots self.old.slots)) (length (M.slots self.old.slots)) refusal (everything at.provider at.quarter) at.provider at.quarter new }
+        ensures slots { M.slots self.new.slots ≡ changed_slots K.measure (M.slots self.old.slots) at.provider at.quarter (result_err result) new }
+        ensures after { amounts K.measure (records_held K.measure (M.slots self.new.slots)) ≡ changed K.measure (records_held K.measure (M.slots self.old.slots)) at.provider at.quarter (result_err result) new }
         ensures places { length (M.slots self.new.slots) ≡ length (M.slots self.old.slots) }
         ensures lender { M.loan self.new.slots ≡ M.loan self.old.slots }
     {
@@ -66,7 +66,7 @@ impl<M: Slots<Slot = Option<Record<K::Row>>>, K: Quantity> RecordBook<M, K> {
 impl<M: Slots<Slot = Option<Record<K::Row>>>, K: Quantity> Book for RecordBook<M, K> {
     type Q = K;
 
-    ghost holdings = { λ s. records_held K.Quantity.measure (M.slots s.slots) };
+    ghost holdings = { λ s. records_held K.measure (M.slots s.slots) };
 
     ghost places = { λ s. length (M.slots s.slots) };
 
@@ -94,10 +94,10 @@ impl<M: Slots<Slot = Option<Record<K::Row>>>, K: Quantity> Book for RecordBook<M
     // The interface's promises once more, and two of this book's own: which slot is taken or freed, and that the loan stays.
     #[tactic(auto, using(book::proofs::Changes::raise_outside, book::proofs::Changes::raise_outside_after, book::proofs::Changes::raise_answer, book::proofs::Changes::raise_after, crate::proofs::Calls::raise_outside_slots, crate::proofs::Calls::raise_slots))]
     fn raise(&mut self, provider: u8, quarter: u8, quantity: K) -> Result<(), BookRefusal>
-        ensures answer { answer_number (result_err result) ≡ answer_number (raise_refusal K.Quantity.measure (records_held K.Quantity.measure (M.slots self.old.slots)) (length (M.slots self.old.slots)) everything provider quarter quantity) }
-        ensures after { amounts K.Quantity.measure (records_held K.Quantity.measure (M.slots self.new.slots)) ≡ raised K.Quantity.measure (records_held K.Quantity.measure (M.slots self.old.slots)) (length (M.slots self.old.slots)) everything provider quarter quantity }
+        ensures answer { answer_number (result_err result) ≡ answer_number (raise_refusal K.measure (records_held K.measure (M.slots self.old.slots)) (length (M.slots self.old.slots)) everything provider quarter quantity) }
+        ensures after { amounts K.measure (records_held K.measure (M.slots self.new.slots)) ≡ raised K.measure (records_held K.measure (M.slots self.old.slots)) (length (M.slots self.old.slots)) everything provider quarter quantity }
         ensures rest { ChangesHoldings (λ s. length (M.slots s.slots)) (λ _. everything {Q = K}) (λ _. 0) self.old self.new }
-        ensures slots { M.slots self.new.slots ≡ raised_slots K.Quantity.measure (M.slots self.old.slots) provider quarter quantity }
+        ensures slots { M.slots self.new.slots ≡ raised_slots K.measure (M.slots self.old.slots) provider quarter quantity }
         ensures lender { M.loan self.new.slots ≡ M.loan self.old.slots }
     {
         let at = Position::new(provider, quarter)?;
@@ -107,10 +107,10 @@ impl<M: Slots<Slot = Option<Record<K::Row>>>, K: Quantity> Book for RecordBook<M
 
     #[tactic(auto, using(book::proofs::Changes::lower_outside, book::proofs::Changes::lower_outside_after, book::proofs::Changes::lower_answer, book::proofs::Changes::lower_after, crate::proofs::Calls::lower_outside_slots, crate::proofs::Calls::lower_slots))]
     fn lower(&mut self, provider: u8, quarter: u8, quantity: K) -> Result<(), BookRefusal>
-        ensures answer { answer_number (result_err result) ≡ answer_number (lower_refusal K.Quantity.measure (records_held K.Quantity.measure (M.slots self.old.slots)) (length (M.slots self.old.slots)) provider quarter quantity) }
-        ensures after { amounts K.Quantity.measure (records_held K.Quantity.measure (M.slots self.new.slots)) ≡ lowered K.Quantity.measure (records_held K.Quantity.measure (M.slots self.old.slots)) (length (M.slots self.old.slots)) provider quarter quantity }
+        ensures answer { answer_number (result_err result) ≡ answer_number (lower_refusal K.measure (records_held K.measure (M.slots self.old.slots)) (length (M.slots self.old.slots)) provider quarter quantity) }
+        ensures after { amounts K.measure (records_held K.measure (M.slots self.new.slots)) ≡ lowered K.measure (records_held K.measure (M.slots self.old.slots)) (length (M.slots self.old.slots)) provider quarter quantity }
         ensures rest { ChangesHoldings (λ s. length (M.slots s.slots)) (λ _. everything {Q = K}) (λ _. 0) self.old self.new }
-        ensures slots { M.slots self.new.slots ≡ lowered_slots K.Quantity.measure (M.slots self.old.slots) provider quarter quantity }
+        ensures slots { M.slots self.new.slots ≡ lowered_slots K.measure (M.slots self.old.slots) provider quarter quantity }
         ensures lender { M.loan self.new.slots ≡ M.loan self.old.slots }
     {
         let at = Position::new(provider, quarter)?;

@@ -17,7 +17,7 @@ fn has_key<R: Copy>(slot: Option<Record<R>>, at: Position) -> bool
 }
 
 fn is_vacant<K: Quantity>(slot: Option<Record<K::Row>>) -> bool
-    ensures { result ≡ vacant K.Quantity.measure slot }
+    ensures { result ≡ vacant K.measure slot }
 {
     slot.is_none_or(|record| K::of_row(record.row).is_zero())
 }
@@ -31,20 +31,20 @@ pub(crate) fn find<R: Copy>(slots: &[Option<Record<R>>], at: Position) -> Option
 
 // The place of the first free slot.
 fn first_vacant<K: Quantity>(slots: &[Option<Record<K::Row>>]) -> Option<usize>
-    ensures { result ≡ position (vacant K.Quantity.measure) slots.now }
+    ensures { result ≡ position (vacant K.measure) slots.now }
 {
     slots.iter().position(|slot| is_vacant::<K>(*slot))
 }
 
 fn slot_told<K: Quantity>(slot: Option<Record<K::Row>>) -> K
-    ensures { result ≡ told_by_slot K.Quantity.measure slot }
+    ensures { result ≡ told_by_slot K.measure slot }
 {
     slot.map_or(K::zero(), |record| K::of_row(record.row))
 }
 
 // What the record at a place tells: zero where there is none.
 fn told_at<K: Quantity>(slots: &[Option<Record<K::Row>>], place: Option<usize>) -> K
-    ensures { result ≡ told_by_place K.Quantity.measure slots.now place }
+    ensures { result ≡ told_by_place K.measure slots.now place }
 {
     let Some(i) = place else {
         return K::zero();
@@ -55,7 +55,7 @@ fn told_at<K: Quantity>(slots: &[Option<Record<K::Row>>], place: Option<usize>) 
 /// The holding, zero outside the range.
 #[tactic(auto, using(book::proofs::Changes::held_inside, crate::proofs::Slots::held_told))]
 pub fn holding<K: Quantity>(slots: &[Option<Record<K::Row>>], provider: u8, quarter: u8) -> K
-    ensures { result ≡ held_at K.Quantity.measure (records_held K.Quantity.measure slots.now) provider quarter }
+    ensures { result ≡ held_at K.measure (records_held K.measure slots.now) provider quarter }
 {
     let Ok(at) = Position::new(provider, quarter) else {
         return K::zero();
@@ -65,7 +65,7 @@ pub fn holding<K: Quantity>(slots: &[Option<Record<K::Row>>], provider: u8, quar
 
 /// How many slots are free.
 pub fn free<K: Quantity>(slots: &[Option<Record<K::Row>>]) -> usize
-    ensures { result ≡ vacancies K.Quantity.measure slots.now }
+    ensures { result ≡ vacancies K.measure slots.now }
 {
     slots.iter().filter(|slot| is_vacant::<K>(**slot)).count()
 }
@@ -75,7 +75,7 @@ pub(crate) fn place_of<K: Quantity>(
     slots: &[Option<Record<K::Row>>],
     told: Option<usize>,
 ) -> Option<usize>
-    ensures { result ≡ (if is_zero K.Quantity.measure (told_by_place K.Quantity.measure slots.now told) then position (vacant K.Quantity.measure) slots.now else told) }
+    ensures { result ≡ (if is_zero K.measure (told_by_place K.measure slots.now told) then position (vacant K.measure) slots.now else told) }
 {
     let held: K = told_at(slots, told);
     if held.is_zero() {
