@@ -10,7 +10,6 @@ use quantity::fcr::Volume;
 use script::calls::Answer;
 use script::perform::perform;
 use script::quantities::Written;
-use script::reading::{read_call, read_line};
 use script::settings::{Bottom, Line, Service, Setting, Switch};
 use sparse_book::stored::StoredSparseBook;
 use std::io::Read;
@@ -54,7 +53,7 @@ fn call_book<B: Book>(book: &mut B, line: &str) -> Result<Answer<B::Q>, Fault>
 where
     B::Q: Written,
 {
-    Ok(perform(book, read_call(line)?)?)
+    Ok(perform(book, line.parse()?)?)
 }
 
 impl<'a, R: Print + AllocGlobal> Session<'a, R> {
@@ -84,7 +83,7 @@ impl<'a, R: Print + AllocGlobal> Session<'a, R> {
     // Takes the settings of a script up to its first call, and tells that call's place and service.
     fn settle(&mut self) -> io::Result<Option<(usize, Service)>> {
         for (place, line) in self.text.lines().enumerate() {
-            let outcome = match read_line(line) {
+            let outcome = match line.parse() {
                 Ok(Line::Blank) => continue,
                 Ok(Line::Setting(setting)) => self.choice.take_early(setting),
                 Ok(Line::Call) => match self.choice.open(line) {
@@ -103,7 +102,7 @@ impl<'a, R: Print + AllocGlobal> Session<'a, R> {
     where
         B::Q: Written,
     {
-        match read_line(line) {
+        match line.parse() {
             Ok(Line::Blank) => Ok(()),
             Ok(Line::Setting(setting)) => {
                 let outcome = self.choice.take_late(setting);

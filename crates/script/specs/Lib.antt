@@ -1,3 +1,4 @@
 pub mod Performed
 pub mod Texts
 pub mod Reading
+pub mod Faults

@@ -6,19 +6,19 @@ use book::answers::BookRefusal;
 use refusals::refusal::Refusal;
 use std::fmt;
 
+/// A change of one holding by a quantity.
+#[derive(Clone, Copy, PartialEq, Eq, Debug)]
+pub struct HoldingChange<Q> {
+    pub provider: u8,
+    pub quarter: u8,
+    pub quantity: Q,
+}
+
 /// A call of a book.
 #[derive(Clone, Copy, PartialEq, Eq, Debug)]
 pub enum Call<Q> {
-    Raise {
-        provider: u8,
-        quarter: u8,
-        quantity: Q,
-    },
-    Lower {
-        provider: u8,
-        quarter: u8,
-        quantity: Q,
-    },
+    Raise(HoldingChange<Q>),
+    Lower(HoldingChange<Q>),
     Move {
         giver: u8,
         taker: u8,

@@ -15,20 +15,12 @@ pub fn perform<B: Book>(book: &mut B, call: Call<B::Q>) -> Result<Answer<B::Q>, 
     ensures rest { ChangesHoldings B.Book.places B.Book.admission B.Book.layer_number book.old book.new }
 {
     match call {
-        Call::Raise {
-            provider,
-            quarter,
-            quantity,
-        } => {
-            book.raise(provider, quarter, quantity)?;
+        Call::Raise(change) => {
+            book.raise(change.provider, change.quarter, change.quantity)?;
             Ok(Answer::Raised)
         }
-        Call::Lower {
-            provider,
-            quarter,
-            quantity,
-        } => {
-            book.lower(provider, quarter, quantity)?;
+        Call::Lower(change) => {
+            book.lower(change.provider, change.quarter, change.quantity)?;
             Ok(Answer::Lowered)
         }
         Call::Move {

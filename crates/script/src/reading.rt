@@ -1,10 +1,10 @@
-use crate::calls::Call;
+use crate::calls::{Call, HoldingChange};
 use crate::malformed::Malformed;
 use crate::quantities::Written;
 use crate::settings::{Bottom, Line, Setting};
 use crate::words::{next_word, no_more, number, without_comment};
 use quantity::direction::Direction;
-use std::str::SplitWhitespace;
+use std::str::{FromStr, SplitWhitespace};
 
 // The next word, as a provider or a quarter.
 fn read_u8(words: &mut SplitWhitespace<'_>) -> Result<u8, Malformed> {
@@ -42,75 +42,76 @@ fn read_limit(words: &mut SplitWhitespace<'_>) -> Result<Setting, Malformed> {
 }
 
 /// What a line is, or what is wrong with it; a call is not read yet.
-pub fn read_line(line: &str) -> Result<Line, Malformed> {
-    let mut words = without_comment(line).split_whitespace();
-    let setting = match words.next() {
-        None => return Ok(Line::Blank),
-        Some("service") => read_service(&mut words)?,
-        Some("books") => read_books(&mut words)?,
-        Some("limits") => read_limits(&mut words)?,
-        Some("limit") => read_limit(&mut words)?,
-        Some("raise" | "lower" | "move" | "holding" | "free") => return Ok(Line::Call),
-        Some(_) => return Err(Malformed::UnknownWord),
-    };
-    no_more(&mut words)?;
-    Ok(Line::Setting(setting))
+impl FromStr for Line {
+    type Err = Malformed;
+
+    fn from_str(line: &str) -> Result<Line, Malformed> {
+        let mut words = without_comment(line).split_whitespace();
+        let setting = match words.next() {
+            None => return Ok(Line::Blank),
+            Some("service") => read_service(&mut words)?,
+            Some("books") => read_books(&mut words)?,
+            Some("limits") => read_limits(&mut words)?,
+            Some("limit") => read_limit(&mut words)?,
+            Some("raise" | "lower" | "move" | "holding" | "free") => return Ok(Line::Call),
+            Some(_) => return Err(Malformed::UnknownWord),
+        };
+        no_more(&mut words)?;
+        Ok(Line::Setting(setting))
+    }
 }
 
-// The provider, quarter and quantity of a change.
-fn read_change<Q: Written>(words: &mut SplitWhitespace<'_>) -> Result<(u8, u8, Q), Malformed> {
+fn read_change<Q: Written>(words: &mut SplitWhitespace<'_>) -> Result<HoldingChange<Q>, Malformed> {
     let provider = read_u8(words)?;
     let quarter = read_u8(words)?;
     let quantity = Q::read(next_word(words)?)?;
-    Ok((provider, quarter, quantity))
+    Ok(HoldingChange {
+        provider,
+        quarter,
+        quantity,
+    })
+}
+
+fn read_move<Q: Written>(words: &mut SplitWhitespace<'_>) -> Result<Call<Q>, Malformed> {
+    let giver = read_u8(words)?;
+    let taker = read_u8(words)?;
+    let first = read_u8(words)?;
+    let last = read_u8(words)?;
+    let quantity = Q::read(next_word(words)?)?;
+    Ok(Call::Move {
+        giver,
+        taker,
+        first,
+        last,
+        quantity,
+    })
+}
+
+fn read_holding<Q>(words: &mut SplitWhitespace<'_>) -> Result<Call<Q>, Malformed> {
+    let provider = read_u8(words)?;
+    let quarter = read_u8(words)?;
+    Ok(Call::Holding { provider, quarter })
 }
 
 fn read_words<Q: Written>(words: &mut SplitWhitespace<'_>) -> Result<Call<Q>, Malformed> {
     match next_word(words)? {
-        "raise" => {
-            let (provider, quarter, quantity) = read_change(words)?;
-            Ok(Call::Raise {
-                provider,
-                quarter,
-                quantity,
-            })
-        }
-        "lower" => {
-            let (provider, quarter, quantity) = read_change(words)?;
-            Ok(Call::Lower {
-                provider,
-                quarter,
-                quantity,
-            })
-        }
-        "move" => {
-            let giver = read_u8(words)?;
-            let taker = read_u8(words)?;
-            let first = read_u8(words)?;
-            let last = read_u8(words)?;
-            let quantity = Q::read(next_word(words)?)?;
-            Ok(Call::Move {
-                giver,
-                taker,
-                first,
-                last,
-                quantity,
-            })
-        }
-        "holding" => {
-            let provider = read_u8(words)?;
-            let quarter = read_u8(words)?;
-            Ok(Call::Holding { provider, quarter })
-        }
+        "raise" => read_change(words).map(Call::Raise),
+        "lower" => read_change(words).map(Call::Lower),
+        "move" => read_move(words),
+        "holding" => read_holding(words),
         "free" => Ok(Call::Free),
         _ => Err(Malformed::UnknownWord),
     }
 }
 
 /// The call of a line, or what is wrong with it.
-pub fn read_call<Q: Written>(line: &str) -> Result<Call<Q>, Malformed> {
-    let mut words = without_comment(line).split_whitespace();
-    let call = read_words(&mut words)?;
-    no_more(&mut words)?;
-    Ok(call)
+impl<Q: Written> FromStr for Call<Q> {
+    type Err = Malformed;
+
+    fn from_str(line: &str) -> Result<Call<Q>, Malformed> {
+        let mut words = without_comment(line).split_whitespace();
+        let call = read_words(&mut words)?;
+        no_more(&mut words)?;
+        Ok(call)
+    }
 }
