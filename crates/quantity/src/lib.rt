@@ -4,4 +4,5 @@ pub mod afrr;
 pub mod direction;
 pub mod fcr;
 pub mod interface;
+pub mod reading;
 pub mod reserve;

@@ -1,5 +1,7 @@
--- The words of what is wrong with a line.
+-- What is wrong with a line: its words, and the fault of a quantity.
 use Rattle.std.specs.Prelude.{ℕ, List, codes}
+use Rattle.quantity.specs.declared.reading.QuantityFault.{QuantityFault}
+use Rattle.quantity.specs.declared.reading.QuantityFault.TheVariants.{WrongDirections as OtherDirections, NotANumber as NoNumber, TooLarge}
 use Rattle.script.specs.declared.malformed.Malformed.{Malformed}
 use Rattle.script.specs.declared.malformed.Malformed.TheVariants.{ServiceFirst, ServiceAgain, BooksOpen, UnknownService, UnknownBooks, NotOnOff, UnknownDirection, UnknownWord, WordMissing, WordTooMany, NotANumber, NumberTooLarge, PlacesTooMany, LimitTooLarge, QuantityTooLarge, WrongDirections}
 
@@ -20,3 +22,9 @@ malformed_text PlacesTooMany = codes "a sparse book has at most 65535 places"
 malformed_text LimitTooLarge = codes "a limit is at most 4294967295 tenths"
 malformed_text QuantityTooLarge = codes "no quantity has more than 10000 tenths in a direction"
 malformed_text WrongDirections = codes "a quantity is written 100 in fcr and 40/20 (up/down) in afrr"
+
+-- a fault of a quantity as that of its line
+abbrev pub quantity_fault : QuantityFault → Malformed
+quantity_fault OtherDirections = WrongDirections
+quantity_fault NoNumber = NotANumber
+quantity_fault TooLarge = QuantityTooLarge

@@ -1,7 +1,8 @@
 ghost use Rattle.std.specs.Prelude.{◌≡◌, Some};
-ghost use Rattle.script.specs.Faults.{malformed_text};
+ghost use Rattle.script.specs.Faults.{malformed_text, quantity_fault};
 
 use quantity::direction::UnknownDirection;
+use quantity::reading::QuantityFault;
 use std::fmt;
 
 /// What is wrong with a line that is not understood.
@@ -33,6 +34,18 @@ impl From<UnknownDirection> for Malformed {
 
     fn from(_unknown: UnknownDirection) -> Malformed {
         Malformed::UnknownDirection
+    }
+}
+
+impl From<QuantityFault> for Malformed {
+    ghost from_gives = { λ fault what. what ≡ quantity_fault fault };
+
+    fn from(fault: QuantityFault) -> Malformed {
+        match fault {
+            QuantityFault::WrongDirections => Malformed::WrongDirections,
+            QuantityFault::NotANumber => Malformed::NotANumber,
+            QuantityFault::TooLarge => Malformed::QuantityTooLarge,
+        }
     }
 }
 

@@ -64,7 +64,7 @@ impl FromStr for Line {
 fn read_change<Q: Written>(words: &mut SplitWhitespace<'_>) -> Result<HoldingChange<Q>, Malformed> {
     let provider = read_u8(words)?;
     let quarter = read_u8(words)?;
-    let quantity = Q::read(next_word(words)?)?;
+    let quantity = next_word(words)?.parse()?;
     Ok(HoldingChange {
         provider,
         quarter,
@@ -77,7 +77,7 @@ fn read_move<Q: Written>(words: &mut SplitWhitespace<'_>) -> Result<Call<Q>, Mal
     let taker = read_u8(words)?;
     let first = read_u8(words)?;
     let last = read_u8(words)?;
-    let quantity = Q::read(next_word(words)?)?;
+    let quantity = next_word(words)?.parse()?;
     Ok(Call::Move {
         giver,
         taker,

@@ -1,6 +1,7 @@
 ghost use Rattle.std.specs.Prelude.{Ok, IfOk};
 
 use crate::malformed::Malformed;
+use quantity::reading::is_number;
 use std::str::{FromStr, SplitWhitespace};
 
 /// A number written in digits alone; one that is too large for its type is told as it is given here.
@@ -10,7 +11,7 @@ where
     N::Err: Drop,
     ensures { IfOk result (λ n. N.from_str_gives word.now (Ok n)) }
 {
-    if word.is_empty() || !word.bytes().all(|b| b.is_ascii_digit()) {
+    if !is_number(word) {
         return Err(Malformed::NotANumber);
     }
     word.parse().or(Err(too_large))
