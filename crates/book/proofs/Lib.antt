@@ -3,3 +3,4 @@ pub mod Counts
 pub mod Changes
 pub mod Told
 pub mod Rests
+pub mod Ranges

@@ -1,5 +1,6 @@
 #![tactic(auto)]
 
 pub mod answers;
+pub mod counting;
 pub mod interface;
 pub mod range;

@@ -6,10 +6,11 @@ ghost use Rattle.day.specs.Announcing.{deadline_of, outline_refusal, announce_re
 use crate::stages::{BeforeGate, Day, InStage};
 use quantity::interface::Quantity;
 use record_list::interface::Records;
+use refusals::passage::Passage;
 use refusals::refusal::Refusal;
 use requests::announcing::put_announcement;
 use requests::finding::Joining;
-use requests::request::{Passage, Request, Side};
+use requests::request::{Request, Side};
 
 /// The minute from which nothing is announced in the first stage: 13:30 on the day before.
 pub const ANNOUNCING_ENDS: i32 = -630;

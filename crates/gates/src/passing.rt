@@ -10,8 +10,9 @@ use crate::gate::Gate;
 use book::interface::Book;
 use quantity::interface::Quantity;
 use record_list::interface::Records;
+use refusals::passage::Passage;
 use refusals::refusal::Refusal;
-use requests::request::{Passage, Request, Status};
+use requests::request::{Request, Status};
 use span_moves::spans::move_span;
 
 // The quantity that passes: what the giver announced last.

@@ -4,7 +4,7 @@ use Rattle.std.proofs.Common.{arith, leb-true}
 use Rattle.std.proofs.lemmas.Bool.{and_parts}
 use Rattle.std.specs.Option.{unwrap_or}
 use Rattle.quantity.specs.declared.afrr.Band.{Band}
-use Rattle.quantity.specs.declared.afrr.BandRow.{BandRow}
+use Rattle.quantity.specs.declared.up_down.UpDown.{UpDown}
 
 unfoldable pub band_by : (u d : ℕ) (b : Bool) → (nat_le u 10000 && nat_le d 10000) ≡ b → Option Band
 band_by u d true e = Some (record { up = u; down = d; upward = leb-true u 10000 (and_parts (nat_le u 10000) (nat_le d 10000) e).0; downward = leb-true d 10000 (and_parts (nat_le u 10000) (nat_le d 10000) e).1 })
@@ -30,10 +30,10 @@ abbrev pub band_left : Band → Band → Option Band
 band_left a b = cond (band_covers a b) (band_of (a.up - b.up) (a.down - b.down)) None
 
 -- the row of a band, and the band that a row tells
-abbrev pub band_row : Band → BandRow
+abbrev pub band_row : Band → UpDown ℕ
 band_row v = record { up = v.up; down = v.down }
 
-abbrev pub band_told : BandRow → Band
+abbrev pub band_told : UpDown ℕ → Band
 band_told r = unwrap_or (band_of r.up r.down) no_band
 
 -- the tenths in the direction of a number

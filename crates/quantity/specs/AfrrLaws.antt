@@ -7,7 +7,7 @@ use Rattle.std.proofs.lemmas.Bool.{and_parts, and_from, and_cases}
 use Rattle.std.specs.Option.{unwrap_or}
 use Rattle.quantity.specs.Measure.{Measure, Sum, Rest}
 use Rattle.quantity.specs.declared.afrr.Band.{Band}
-use Rattle.quantity.specs.declared.afrr.BandRow.{BandRow}
+use Rattle.quantity.specs.declared.up_down.UpDown.{UpDown}
 use Rattle.quantity.specs.Afrr.{band_by, band_of, no_band, band_sum, band_covers, band_left, band_row, band_told}
 
 -- tenths up and tenths down
@@ -76,7 +76,7 @@ left_tells a b true e None h = λ c f k. h (omega (arith, a.upward)) (omega (ari
 left_tells a b false e o h =
     λ c f k. not_both b.up a.up b.down a.down e (omega (arith, ap (λ (t : Tenths). t.up) k)) (omega (arith, ap (λ (t : Tenths). t.down) k))
 
-pub row_tells : (r : BandRow) → ((v : Band) → band_row v ≢ r) → (o : Option Band) → Tells r.up r.down o → band_amount (unwrap_or o no_band) ≡ record { up = 0; down = 0 }
+pub row_tells : (r : UpDown ℕ) → ((v : Band) → band_row v ≢ r) → (o : Option Band) → Tells r.up r.down o → band_amount (unwrap_or o no_band) ≡ record { up = 0; down = 0 }
 row_tells r n (Some v) h = absurd (n v (λ i. record { up = h.0 i; down = h.1 i }))
 row_tells r n None h = refl
 
@@ -92,7 +92,7 @@ pub same_alike : (a b : Band) → band_amount a ≡ band_amount b → band_alike
 same_alike a b h =
     and_from (a.up == b.up) (a.down == b.down) (eq-eqb a.up b.up (ap (λ (t : Tenths). t.up) h)) (eq-eqb a.down b.down (ap (λ (t : Tenths). t.down) h))
 
-abbrev pub band_measure : Measure Band BandRow
+abbrev pub band_measure : Measure Band (UpDown ℕ)
 band_measure = record {
   Amount = Tenths;
   none = record { up = 0; down = 0 };

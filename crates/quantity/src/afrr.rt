@@ -1,5 +1,7 @@
 ghost use Rattle.std.specs.Prelude.{◌≤◌};
 
+use crate::up_down::UpDown;
+
 pub mod calls;
 pub mod laws;
 
@@ -14,8 +16,4 @@ pub struct Band {
 }
 
 /// The row of a band: its tenths, with no bound.
-#[derive(Clone, Copy, PartialEq, Eq, Debug)]
-pub struct BandRow {
-    pub up: u16,
-    pub down: u16,
-}
+pub type BandRow = UpDown<u16>;

@@ -6,3 +6,4 @@ pub mod fcr;
 pub mod interface;
 pub mod reading;
 pub mod reserve;
+pub mod up_down;

@@ -1,3 +1,5 @@
 #![tactic(auto)]
 
+pub mod passage;
 pub mod refusal;
+pub mod span;

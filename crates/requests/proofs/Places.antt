@@ -6,7 +6,7 @@ use Rattle.std.proofs.lemmas.List.Quantifiers.{position-Some}
 use Rattle.std.proofs.lemmas.List.Sums.{position_or_len_is}
 use Rattle.std.proofs.lemmas.Option.{slice_get-get_or}
 use Rattle.std.proofs.lemmas.Bool.Decides.{nat_tests}
-use Rattle.requests.specs.declared.request.Passage.{Passage}
+use Rattle.refusals.specs.declared.passage.Passage.{Passage}
 use Rattle.requests.specs.Requests.{holds_of, same_passage}
 
 module _ {E : Type 0} (test : E → Bool) where

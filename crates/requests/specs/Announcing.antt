@@ -7,7 +7,7 @@ use Rattle.refusals.specs.declared.refusal.Refusal.{Refusal}
 use Rattle.refusals.specs.declared.refusal.Refusal.TheVariants.{NoRequestToChange, NoPlaceInList}
 use Rattle.requests.specs.declared.request.Side.{Side}
 use Rattle.requests.specs.declared.request.Status.TheVariants.{WaitingForCounterpart}
-use Rattle.requests.specs.declared.request.Passage.{Passage}
+use Rattle.refusals.specs.declared.passage.Passage.{Passage}
 use Rattle.requests.specs.declared.request.Request.{Request}
 use Rattle.requests.specs.declared.finding.Joining.{Joining}
 use Rattle.requests.specs.declared.finding.Joining.TheVariants.{Unresolved, NotBalanced}

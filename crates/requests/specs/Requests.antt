@@ -5,7 +5,7 @@ use Rattle.requests.specs.declared.request.Side.{Side}
 use Rattle.requests.specs.declared.request.Side.TheVariants.{Giver, Taker}
 use Rattle.requests.specs.declared.request.Status.{Status}
 use Rattle.requests.specs.declared.request.Status.TheVariants.{WaitingForCounterpart, BalanceOk, BalanceError, Confirmed, Rejected, Waiting, Accepted, Declined, Lapsed}
-use Rattle.requests.specs.declared.request.Passage.{Passage}
+use Rattle.refusals.specs.declared.passage.Passage.{Passage}
 use Rattle.requests.specs.declared.request.Request.{Request}
 use Rattle.requests.specs.declared.finding.Joining.{Joining}
 use Rattle.requests.specs.declared.finding.Joining.TheVariants.{Unresolved, NotBalanced}

@@ -4,10 +4,11 @@ ghost use Rattle.requests.specs.Requests.{spoken};
 ghost use Rattle.requests.specs.Announcing.{changed_at, unspoken, addition_refusal, added, announcement_refusal, announcement_place, announcement_list};
 
 use crate::finding::{Joining, find_request};
-use crate::request::{Passage, Request, Side, Status};
+use crate::request::{Request, Side, Status};
 use crate::words::announced;
 use quantity::interface::Quantity;
 use record_list::interface::Records;
+use refusals::passage::Passage;
 use refusals::refusal::Refusal;
 
 /// The most requests that a day has.

@@ -2,8 +2,9 @@ ghost use Rattle.std.specs.Prelude.{◌≡◌};
 ghost use Rattle.std.specs.List.{slice_get, position};
 ghost use Rattle.requests.specs.Requests.{joins, matching, holds_of};
 
-use crate::request::{Passage, Request, Status};
+use crate::request::{Request, Status};
 use record_list::interface::Records;
+use refusals::passage::Passage;
 
 /// Which requests an announcement may join.
 #[derive(Clone, Copy, PartialEq, Eq, Debug)]

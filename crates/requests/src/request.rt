@@ -1,3 +1,4 @@
+use refusals::passage::Passage;
 use refusals::refusal::Refusal;
 
 /// Who announces.
@@ -24,15 +25,6 @@ pub enum Status {
     Accepted,
     Declined,
     Lapsed,
-}
-
-/// Who passes volume to whom, and over which span of quarters, both ends included.
-#[derive(Clone, Copy, PartialEq, Eq, Debug)]
-pub struct Passage {
-    pub giver: u8,
-    pub taker: u8,
-    pub first: u8,
-    pub last: u8,
 }
 
 /// A request to pass volume from a giver to a taker over a span of quarters.

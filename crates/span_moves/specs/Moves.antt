@@ -6,8 +6,9 @@ use Rattle.book.specs.Admissions.{Admission}
 use Rattle.span_moves.specs.declared.change.Change.{Change}
 use Rattle.span_moves.specs.declared.change.Change.TheVariants.{Lowering, Raising}
 use Rattle.refusals.specs.declared.refusal.Refusal.{Refusal}
+use Rattle.refusals.specs.Checks.{no_provider, no_span, one_provider}
 use Rattle.refusals.specs.First.{first_some, unless_refused}
-use Rattle.span_moves.specs.Spans.{first_of, crowding, count, no_provider, no_span, one_provider, becomes, unfit, unadmitted, spanned, left_after}
+use Rattle.span_moves.specs.Spans.{first_of, crowding, count, becomes, unfit, unadmitted, spanned, left_after}
 
 module _ {Q R : Type 0} (m : Measure Q R) (held : Grid Q) where
   -- the giver has its remainders and the taker its sums in the quarters from lo on and before hi

@@ -8,7 +8,7 @@ use Rattle.span_moves.specs.declared.change.Change.{Change}
 use Rattle.span_moves.specs.declared.change.Change.TheVariants.{Lowering, Raising}
 use Rattle.refusals.specs.First.{first_some}
 use Rattle.refusals.specs.declared.refusal.Refusal.{Refusal}
-use Rattle.refusals.specs.declared.refusal.Refusal.TheVariants.{NoSuchProvider, NoSuchSpan, SameProvider, NoRemainder, SumDoesNotFit, NotAdmitted, NoFreePlace}
+use Rattle.refusals.specs.declared.refusal.Refusal.TheVariants.{NoRemainder, SumDoesNotFit, NotAdmitted, NoFreePlace}
 
 -- what a holding becomes: its remainder or its sum
 abbrev pub next : {Q R : Type 0} → Measure Q R → Change → Q → Q → Option Q
@@ -48,15 +48,6 @@ crowding (Some n) = None
 -- how many quarters a span has
 abbrev pub count : ℕ → ℕ → ℕ
 count first last = last + 1 - first
-
-abbrev pub no_provider : ℕ → Option Refusal
-no_provider p = cond (nat_lt p 32) None (Some NoSuchProvider)
-
-abbrev pub no_span : ℕ → ℕ → Option Refusal
-no_span first last = cond (nat_le first last && nat_lt last 100) None (Some NoSuchSpan)
-
-abbrev pub one_provider : ℕ → ℕ → Option Refusal
-one_provider giver taker = cond (giver == taker) (Some SameProvider) None
 
 -- a refusal where the quantity's call answered nothing
 abbrev pub unless_some : {Q : Type 0} → Refusal → Option Q → Option Refusal

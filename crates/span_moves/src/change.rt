@@ -1,13 +1,13 @@
-ghost use Rattle.std.specs.Prelude.{◌≡◌, ◌<◌};
+ghost use Rattle.std.specs.Prelude.{◌≡◌};
 ghost use Rattle.std.specs.Result.{result_err};
 ghost use Rattle.book.specs.Grid.{amounts};
 ghost use Rattle.book.specs.Rest.{ChangesHoldings};
 ghost use Rattle.span_moves.specs.Spans.{next, misfit, asked};
 ghost use Rattle.span_moves.specs.Ready.{changed_one};
 
-use crate::span::Provider;
 use book::answers::Cause;
 use book::interface::Book;
+use book::range::Position;
 use quantity::interface::Quantity;
 use refusals::refusal::Refusal;
 
@@ -31,10 +31,10 @@ impl Change {
     }
 
     /// The refusal where a holding can become nothing that fits.
-    pub fn misfit(self, provider: Provider, quarter: u8) -> Refusal
-        ensures { result ≡ misfit self provider.number quarter }
+    pub fn misfit(self, at: Position) -> Refusal
+        ensures { result ≡ misfit self at.provider at.quarter }
     {
-        let provider = provider.number;
+        let Position { provider, quarter } = at;
         match self {
             Change::Lowering => Refusal::NoRemainder { provider, quarter },
             Change::Raising => Refusal::SumDoesNotFit { provider, quarter },
@@ -42,31 +42,24 @@ impl Change {
     }
 
     /// Whether the book admits what a holding becomes: only what is raised has to be admitted.
-    pub fn admits<B: Book>(
-        self,
-        book: &B,
-        provider: Provider,
-        quarter: u8,
-        changed: B::Q,
-    ) -> Result<(), Cause>
-        requires { quarter < 100 }
-        ensures value { result_err result ≡ asked (B.Book.admission book.now) self provider.number quarter changed }
-        ensures alike { (other : B.Q) → B.Q.Quantity.measure.amount other ≡ B.Q.Quantity.measure.amount changed → asked (B.Book.admission book.now) self provider.number quarter other ≡ asked (B.Book.admission book.now) self provider.number quarter changed }
+    pub fn admits<B: Book>(self, book: &B, at: Position, changed: B::Q) -> Result<(), Cause>
+        ensures value { result_err result ≡ asked (B.Book.admission book.now) self at.provider at.quarter changed }
+        ensures alike { (other : B.Q) → B.Q.Quantity.measure.amount other ≡ B.Q.Quantity.measure.amount changed → asked (B.Book.admission book.now) self at.provider at.quarter other ≡ asked (B.Book.admission book.now) self at.provider at.quarter changed }
     {
         match self {
             Change::Lowering => Ok(()),
-            Change::Raising => book.admits(provider.number, quarter, changed),
+            Change::Raising => book.admits(at.provider, at.quarter, changed),
         }
     }
 
     /// Changes one holding, if the book does not refuse it.
-    pub fn apply<B: Book>(self, book: &mut B, provider: Provider, quarter: u8, quantity: B::Q)
-        ensures after { amounts B.Q.Quantity.measure (B.Book.holdings book.new) ≡ changed_one B.Q.Quantity.measure (B.Book.holdings book.old) (B.Book.places book.old) (B.Book.admission book.old) self provider.number quarter quantity }
+    pub fn apply<B: Book>(self, book: &mut B, at: Position, quantity: B::Q)
+        ensures after { amounts B.Q.Quantity.measure (B.Book.holdings book.new) ≡ changed_one B.Q.Quantity.measure (B.Book.holdings book.old) (B.Book.places book.old) (B.Book.admission book.old) self at.provider at.quarter quantity }
         ensures rest { ChangesHoldings B.Book.places B.Book.admission B.Book.layer_number book.old book.new }
     {
         let _ = match self {
-            Change::Lowering => book.lower(provider.number, quarter, quantity),
-            Change::Raising => book.raise(provider.number, quarter, quantity),
+            Change::Lowering => book.lower(at.provider, at.quarter, quantity),
+            Change::Raising => book.raise(at.provider, at.quarter, quantity),
         };
     }
 }

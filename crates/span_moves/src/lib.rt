@@ -1,7 +1,6 @@
 #![tactic(auto)]
 
 mod change;
-mod span;
 mod span_change;
 mod span_move;
 pub mod spans;

@@ -3,15 +3,17 @@ ghost use Rattle.std.specs.Result.{result_err};
 ghost use Rattle.book.specs.Grid.{amounts, taken};
 ghost use Rattle.book.specs.Rest.{ChangesHoldings};
 ghost use Rattle.refusals.specs.First.{first_some};
-ghost use Rattle.span_moves.specs.Spans.{Alike, first_of, unfit, spanned, step_left, left_after, count, no_provider, no_span};
+ghost use Rattle.refusals.specs.Checks.{no_provider, no_span};
+ghost use Rattle.span_moves.specs.Spans.{Alike, first_of, unfit, spanned, step_left, left_after, count};
 ghost use Rattle.span_moves.specs.Moves.{unwelcome, change_checks};
 ghost use Rattle.span_moves.specs.Ready.{Ready};
 
 use crate::change::Change;
-use crate::span::{Provider, Span};
 use book::interface::Book;
+use book::range::Position;
 use quantity::interface::Quantity;
 use refusals::refusal::Refusal;
+use refusals::span::{Provider, Span};
 
 /// One change of a provider's holdings, by one quantity in every quarter of a span.
 #[derive(Clone, Copy)]
@@ -41,12 +43,16 @@ impl<Q: Quantity> SpanChange<Q> {
         })
     }
 
-    // What the provider holds in a quarter.
-    fn held<B: Book<Q = Q>>(self, book: &B, quarter: u8) -> Q
+    // Where the provider's holding of a quarter stands.
+    fn at(self, quarter: u8) -> Position
         requires { quarter < 100 }
-        ensures { result ≡ B.Book.holdings book.now self.provider.number quarter }
+        ensures provider { result.provider ≡ self.provider.number }
+        ensures quarter { result.quarter ≡ quarter }
     {
-        book.holding(self.provider.number, quarter)
+        Position {
+            provider: self.provider.number,
+            quarter,
+        }
     }
 
     /// Refuses the first quarter in which the changed holding does not fit.
@@ -54,23 +60,23 @@ impl<Q: Quantity> SpanChange<Q> {
         ensures { result_err result ≡ first_of (unfit Q.Quantity.measure (B.Book.holdings book.now) self.change self.provider.number self.quantity) self.span.first (count self.span.first self.span.last) }
     {
         for quarter in self.span.first..=self.span.last {
-            let changed = self.change.next(self.held(book, quarter), self.quantity);
-            changed.ok_or(self.change.misfit(self.provider, quarter))?;
+            let at = self.at(quarter);
+            let changed = self.change.next(held(book, at), self.quantity);
+            changed.ok_or(self.change.misfit(at))?;
         }
         Ok(())
     }
 
-    // Refuses a quarter in which the changed holding is not admitted.
-    fn check_quarter<B: Book<Q = Q>>(self, book: &B, quarter: u8) -> Result<(), Refusal>
-        requires { quarter < 100 }
-        ensures { Alike Q.Quantity.measure (B.Book.holdings book.now) self.quantity (λ other q. unwelcome Q.Quantity.measure other (B.Book.places book.now) (B.Book.admission book.now) self.change self.provider.number q quarter) (result_err result) }
+    // Refuses a change of one holding to what is not admitted.
+    fn check_one<B: Book<Q = Q>>(self, book: &B, at: Position) -> Result<(), Refusal>
+        ensures { Alike Q.Quantity.measure (B.Book.holdings book.now) self.quantity (λ other q. unwelcome Q.Quantity.measure other (B.Book.places book.now) (B.Book.admission book.now) self.change at.provider q at.quarter) (result_err result) }
     {
-        let provider = self.provider.number;
-        let Some(changed) = self.change.next(self.held(book, quarter), self.quantity) else {
+        let Position { provider, quarter } = at;
+        let Some(changed) = self.change.next(held(book, at), self.quantity) else {
             return Ok(());
         };
         self.change
-            .admits(book, self.provider, quarter, changed)
+            .admits(book, at, changed)
             .map_err(|cause| Refusal::NotAdmitted {
                 provider,
                 quarter,
@@ -84,7 +90,7 @@ impl<Q: Quantity> SpanChange<Q> {
         ensures { Alike Q.Quantity.measure (B.Book.holdings book.now) self.quantity (λ other q. first_of (unwelcome Q.Quantity.measure other (B.Book.places book.now) (B.Book.admission book.now) self.change self.provider.number q) self.span.first (count self.span.first self.span.last)) (result_err result) }
     {
         for quarter in self.span.first..=self.span.last {
-            self.check_quarter(book, quarter)?;
+            self.check_one(book, self.at(quarter))?;
         }
         Ok(())
     }
@@ -97,7 +103,7 @@ impl<Q: Quantity> SpanChange<Q> {
     {
         let mut left = free;
         for quarter in self.span.first..=self.span.last {
-            let held = self.held(book, quarter);
+            let held = held(book, self.at(quarter));
             let changed = self.change.next(held, self.quantity).unwrap_or(held);
             left = after_step(left, held.is_zero(), changed.is_zero())?;
         }
@@ -125,10 +131,16 @@ impl<Q: Quantity> SpanChange<Q> {
         ensures rest { ChangesHoldings B.Book.places B.Book.admission B.Book.layer_number book.old book.new }
     {
         for quarter in self.span.first..=self.span.last {
-            self.change
-                .apply(book, self.provider, quarter, self.quantity);
+            self.change.apply(book, self.at(quarter), self.quantity);
         }
     }
+}
+
+// What is held at a position.
+fn held<B: Book>(book: &B, at: Position) -> B::Q
+    ensures { result ≡ B.Book.holdings book.now at.provider at.quarter }
+{
+    book.holding(at.provider, at.quarter)
 }
 
 // How many places are free after one holding was changed; none where a place is wanting.

@@ -3,16 +3,18 @@ ghost use Rattle.std.specs.Result.{result_err};
 ghost use Rattle.book.specs.Grid.{amounts};
 ghost use Rattle.book.specs.Rest.{ChangesHoldings};
 ghost use Rattle.refusals.specs.First.{first_some};
-ghost use Rattle.span_moves.specs.Spans.{Alike, no_provider, no_span, one_provider};
+ghost use Rattle.refusals.specs.Checks.{no_provider, no_span, one_provider};
+ghost use Rattle.span_moves.specs.Spans.{Alike};
 ghost use Rattle.span_moves.specs.Moves.{moved, move_checks};
 ghost use Rattle.span_moves.specs.Ready.{ReadyToMove};
 
 use crate::change::Change;
-use crate::span::{Provider, Span};
 use crate::span_change::SpanChange;
 use book::interface::Book;
 use quantity::interface::Quantity;
+use refusals::passage::Passage;
 use refusals::refusal::Refusal;
+use refusals::span::{Provider, Span};
 
 /// One quantity that passes from the giver to the taker in every quarter of a span.
 #[derive(Drop)]
@@ -25,19 +27,13 @@ pub struct SpanMove<Q> {
 }
 
 impl<Q: Quantity> SpanMove<Q> {
-    pub fn new(
-        giver: u8,
-        taker: u8,
-        first: u8,
-        last: u8,
-        quantity: Q,
-    ) -> Result<SpanMove<Q>, Refusal>
-        ensures refusal { result_err result ≡ first_some (no_provider giver ∷ (no_provider taker ∷ (no_span first last ∷ (one_provider giver taker ∷ [])))) }
-        ensures parts { IfOk result (λ x. (x.giver.number ≡ giver) × (x.taker.number ≡ taker) × (x.span.first ≡ first) × (x.span.last ≡ last) × (x.quantity ≡ quantity)) }
+    pub fn new(passage: Passage, quantity: Q) -> Result<SpanMove<Q>, Refusal>
+        ensures refusal { result_err result ≡ first_some (no_provider passage.giver ∷ (no_provider passage.taker ∷ (no_span passage.first passage.last ∷ (one_provider passage.giver passage.taker ∷ [])))) }
+        ensures parts { IfOk result (λ x. (x.giver.number ≡ passage.giver) × (x.taker.number ≡ passage.taker) × (x.span.first ≡ passage.first) × (x.span.last ≡ passage.last) × (x.quantity ≡ quantity)) }
     {
-        let giver = Provider::try_from(giver)?;
-        let taker = Provider::try_from(taker)?;
-        let span = Span::new(first, last)?;
+        let giver = Provider::try_from(passage.giver)?;
+        let taker = Provider::try_from(passage.taker)?;
+        let span = Span::new(passage.first, passage.last)?;
         if giver == taker {
             return Err(Refusal::SameProvider);
         }

@@ -11,6 +11,7 @@ use crate::change::Change;
 use crate::span_change::SpanChange;
 use crate::span_move::SpanMove;
 use book::interface::Book;
+use refusals::passage::Passage;
 use refusals::refusal::Refusal;
 
 // Changes every holding of a span, or changes nothing and says why.
@@ -69,21 +70,14 @@ pub fn lower_span<B: Book>(
 
 /// Moves the quantity from the giver to the taker in every quarter of a span, or changes nothing and says why.
 /// All lowerings come before all raisings.
-pub fn move_span<B: Book>(
-    book: &mut B,
-    giver: u8,
-    taker: u8,
-    first: u8,
-    last: u8,
-    quantity: B::Q,
-) -> Result<(), Refusal>
-    ensures answer { answer_number (result_err result) ≡ answer_number (move_refusal B.Q.Quantity.measure (B.Book.holdings book.old) (B.Book.places book.old) (B.Book.admission book.old) giver taker first last quantity) }
-    ensures alike { Alike B.Q.Quantity.measure (B.Book.holdings book.old) quantity (λ other q. move_refusal B.Q.Quantity.measure other (B.Book.places book.old) (B.Book.admission book.old) giver taker first last q) (result_err result) }
-    ensures after { amounts B.Q.Quantity.measure (B.Book.holdings book.new) ≡ move_after B.Q.Quantity.measure (B.Book.holdings book.old) (B.Book.places book.old) (B.Book.admission book.old) giver taker first last quantity }
-    ensures passed { OnOk result (Passed B.Q.Quantity.measure (amounts B.Q.Quantity.measure (B.Book.holdings book.old)) (amounts B.Q.Quantity.measure (B.Book.holdings book.new)) giver taker first last (B.Q.Quantity.measure.amount quantity)) }
+pub fn move_span<B: Book>(book: &mut B, passage: Passage, quantity: B::Q) -> Result<(), Refusal>
+    ensures answer { answer_number (result_err result) ≡ answer_number (move_refusal B.Q.Quantity.measure (B.Book.holdings book.old) (B.Book.places book.old) (B.Book.admission book.old) passage.giver passage.taker passage.first passage.last quantity) }
+    ensures alike { Alike B.Q.Quantity.measure (B.Book.holdings book.old) quantity (λ other q. move_refusal B.Q.Quantity.measure other (B.Book.places book.old) (B.Book.admission book.old) passage.giver passage.taker passage.first passage.last q) (result_err result) }
+    ensures after { amounts B.Q.Quantity.measure (B.Book.holdings book.new) ≡ move_after B.Q.Quantity.measure (B.Book.holdings book.old) (B.Book.places book.old) (B.Book.admission book.old) passage.giver passage.taker passage.first passage.last quantity }
+    ensures passed { OnOk result (Passed B.Q.Quantity.measure (amounts B.Q.Quantity.measure (B.Book.holdings book.old)) (amounts B.Q.Quantity.measure (B.Book.holdings book.new)) passage.giver passage.taker passage.first passage.last (B.Q.Quantity.measure.amount quantity)) }
     ensures rest { ChangesHoldings B.Book.places B.Book.admission B.Book.layer_number book.old book.new }
 {
-    let planned = SpanMove::new(giver, taker, first, last, quantity)?;
+    let planned = SpanMove::new(passage, quantity)?;
     planned.check(book)?;
     planned.apply(book);
     Ok(())

@@ -51,10 +51,7 @@ impl ReserveQuantity for Band {
     }
 
     fn tenths(self, direction: Direction) -> u16 {
-        match direction {
-            Direction::Up => self.up,
-            Direction::Down => self.down,
-        }
+        self.row().get(direction)
     }
 
     fn tenths_add_up(self, other: Band) {}

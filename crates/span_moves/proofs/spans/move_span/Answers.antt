@@ -11,17 +11,17 @@ use Rattle.span_moves.proofs.spans.move_span.Goals as goal
 use Rattle.span_moves.proofs.spans.move_span.Goals.{After-check}
 
 -- what the checks answer is the answer of the whole
-checked : (g : given.Over) (c : After-check g) → Alike g.B.Q.Quantity.measure (g.B.Book.holdings c.args.book.now) c.args.quantity (λ other r. move_refusal g.B.Q.Quantity.measure other (g.B.Book.places c.args.book.now) (g.B.Book.admission c.args.book.now) c.args.giver c.args.taker c.args.first c.args.last r) (result_err c.check.result)
+checked : (g : given.Over) (c : After-check g) → Alike g.B.Q.Quantity.measure (g.B.Book.holdings c.args.book.now) c.args.quantity (λ other r. move_refusal g.B.Q.Quantity.measure other (g.B.Book.places c.args.book.now) (g.B.Book.admission c.args.book.now) c.args.passage.giver c.args.passage.taker c.args.passage.first c.args.passage.last r) (result_err c.check.result)
 checked g c other r e f =
     let parts = c.in_ok-planned.ensures.parts in
     let told = rw (parts.0, parts.1, parts.2, parts.3, parts.4) at c.check.ensures.alike in
-    rw (move_refusal-checks c.args.giver c.args.taker c.args.first c.args.last (sym c.in_ok-planned.ensures.refusal)) (told other r e f)
+    rw (move_refusal-checks c.args.passage.giver c.args.passage.taker c.args.passage.first c.args.passage.last (sym c.in_ok-planned.ensures.refusal)) (told other r e f)
 
 pub returns-in_err-planned : goal.returns-in_err-planned
 returns-in_err-planned g c =
     let held = g.B.Book.holdings c.args.book.now in
     let p = err_from_is_err_and c.from_residual.result c.from_residual.ensures.1 in
-    let no = move_refusal-shape c.args.giver c.args.taker c.args.first c.args.last c.in_err-planned.field-0.0 (sym c.in_err-planned.ensures.refusal) in
+    let no = move_refusal-shape c.args.passage.giver c.args.passage.taker c.args.passage.first c.args.passage.last c.in_err-planned.field-0.0 (sym c.in_err-planned.ensures.refusal) in
     let why = sym (no g.B.Q.Quantity.measure held (g.B.Book.places c.args.book.now) (g.B.Book.admission c.args.book.now) c.args.quantity) in
     record {
       answer = rw (p.1, p.2) (ap answer_number why);
@@ -56,6 +56,6 @@ returns g c =
       answer = ap answer_number why;
       alike = told;
       after = rw (move_after-is None) changed;
-      passed = rw changed (move_passes g.B.Q.Quantity.measure held (g.B.Book.places c.args.book.now) (g.B.Book.admission c.args.book.now) c.args.giver c.args.taker c.args.first c.args.last c.args.quantity (sym why));
+      passed = rw changed (move_passes g.B.Q.Quantity.measure held (g.B.Book.places c.args.book.now) (g.B.Book.admission c.args.book.now) c.args.passage.giver c.args.passage.taker c.args.passage.first c.args.passage.last c.args.quantity (sym why));
       rest = c.apply.ensures.rest;
     }

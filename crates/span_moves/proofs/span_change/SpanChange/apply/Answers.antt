@@ -18,7 +18,7 @@ stepped g c =
     let p = c.args.self.provider.number in
     let q = c.args.self.quantity in
     let t = c.loop-quarter.quarter in
-    let is : amounts m (g.B.Book.holdings c.apply.new.book) ≡ changed_one m held (g.B.Book.places c.args.book.now) (g.B.Book.admission c.args.book.now) change p t q = rw (← inv.rest.places_stay, ← inv.rest.admission_stays) c.apply.ensures.after in
+    let is : amounts m (g.B.Book.holdings c.apply.new.book) ≡ changed_one m held (g.B.Book.places c.args.book.now) (g.B.Book.admission c.args.book.now) change p t q = rw (← inv.rest.places_stay, ← inv.rest.admission_stays, ← c.at.ensures.provider, ← c.at.ensures.quarter) c.apply.ensures.after in
     next_quarter m (g.B.Book.holdings c.args.book.now) (g.B.Book.places c.args.book.now) (g.B.Book.admission c.args.book.now) change p c.args.self.span.first c.args.self.span.last q c.args.self.provider.there c.args.self.span.within c.requires t (omega arith) (omega arith) held (record { so_far = inv.so_far; left_is = inv.left_is; bound = inv.bound }) (g.B.Book.holdings c.apply.new.book) is
 
 pub loop-quarter-init : goal.loop-quarter-init

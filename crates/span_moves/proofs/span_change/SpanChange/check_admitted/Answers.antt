@@ -3,11 +3,11 @@ use Rattle.std.proofs.lemmas.Result.{err_from_is_err_and}
 use Rattle.span_moves.proofs.Firsts.{first_of-hit, first_of-clear}
 use Rattle.span_moves.proofs.span_change.SpanChange.check_admitted.Goals as goal
 
-pub returns-in_err-check_quarter : goal.returns-in_err-check_quarter
-returns-in_err-check_quarter g c other r e f =
+pub returns-in_err-check_one : goal.returns-in_err-check_one
+returns-in_err-check_one g c other r e f =
     let p = err_from_is_err_and c.from_residual.result c.from_residual.ensures.1 in
-    rw (p.1, p.2) (sym (first_of-hit _ _ _ c.loop-quarter.quarter _ (omega arith) (omega arith) (c.loop-quarter.invariant other r e f) (sym (c.in_err-check_quarter.ensures other r e f))))
+    rw (p.1, p.2) (sym (first_of-hit _ _ _ c.loop-quarter.quarter _ (omega arith) (omega arith) (c.loop-quarter.invariant other r e f) (sym (rw (c.at.ensures.provider, c.at.ensures.quarter) at (c.in_err-check_one.ensures other r e f)))))
 
-pub returns-in_ok-check_quarter : goal.returns-in_ok-check_quarter
-returns-in_ok-check_quarter g c other r e f =
-    sym (first_of-clear _ _ _ (λ k l h. grind (arith, c.loop-quarter.invariant other r e f, c.in_ok-check_quarter.ensures other r e f)))
+pub returns-in_ok-check_one : goal.returns-in_ok-check_one
+returns-in_ok-check_one g c other r e f =
+    sym (first_of-clear _ _ _ (λ k l h. grind (arith, c.loop-quarter.invariant other r e f, rw (c.at.ensures.provider, c.at.ensures.quarter) at (c.in_ok-check_one.ensures other r e f))))

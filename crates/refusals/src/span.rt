@@ -1,8 +1,8 @@
 ghost use Rattle.std.specs.Prelude.{◌≡◌, ◌<◌, ◌≤◌, IfOk};
 ghost use Rattle.std.specs.Result.{result_err};
-ghost use Rattle.span_moves.specs.Spans.{no_provider, no_span};
+ghost use Rattle.refusals.specs.Checks.{no_provider, no_span};
 
-use refusals::refusal::Refusal;
+use crate::refusal::Refusal;
 
 /// One of the providers 0 to 31.
 #[derive(Clone, Copy, PartialEq, Eq, Debug)]
@@ -34,6 +34,7 @@ pub struct Span {
 }
 
 impl Span {
+    /// The span of these ends, or that there is none.
     pub fn new(first: u8, last: u8) -> Result<Span, Refusal>
         ensures refusal { result_err result ≡ no_span first last }
         ensures ends { IfOk result (λ s. (s.first ≡ first) × (s.last ≡ last)) }
