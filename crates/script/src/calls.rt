@@ -3,6 +3,7 @@ ghost use Rattle.script.specs.declared.calls.NotDone.TheVariants.{Book, Span};
 ghost use Rattle.script.specs.Texts.{answer_text, not_done_text};
 
 use book::answers::BookRefusal;
+use refusals::passage::Passage;
 use refusals::refusal::Refusal;
 use std::fmt;
 
@@ -19,17 +20,8 @@ pub struct HoldingChange<Q> {
 pub enum Call<Q> {
     Raise(HoldingChange<Q>),
     Lower(HoldingChange<Q>),
-    Move {
-        giver: u8,
-        taker: u8,
-        first: u8,
-        last: u8,
-        quantity: Q,
-    },
-    Holding {
-        provider: u8,
-        quarter: u8,
-    },
+    Move { passage: Passage, quantity: Q },
+    Holding { provider: u8, quarter: u8 },
     Free,
 }
 

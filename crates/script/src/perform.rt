@@ -23,14 +23,8 @@ pub fn perform<B: Book>(book: &mut B, call: Call<B::Q>) -> Result<Answer<B::Q>, 
             book.lower(change.provider, change.quarter, change.quantity)?;
             Ok(Answer::Lowered)
         }
-        Call::Move {
-            giver,
-            taker,
-            first,
-            last,
-            quantity,
-        } => {
-            move_span(book, giver, taker, first, last, quantity)?;
+        Call::Move { passage, quantity } => {
+            move_span(book, passage, quantity)?;
             Ok(Answer::Moved)
         }
         Call::Holding { provider, quarter } => Ok(Answer::Held(book.holding(provider, quarter))),

@@ -4,6 +4,7 @@ use crate::quantities::Written;
 use crate::settings::{Bottom, Line, Setting};
 use crate::words::{next_word, no_more, number, without_comment};
 use quantity::direction::Direction;
+use refusals::passage::Passage;
 use std::str::{FromStr, SplitWhitespace};
 
 // The next word, as a provider or a quarter.
@@ -72,19 +73,23 @@ fn read_change<Q: Written>(words: &mut SplitWhitespace<'_>) -> Result<HoldingCha
     })
 }
 
-fn read_move<Q: Written>(words: &mut SplitWhitespace<'_>) -> Result<Call<Q>, Malformed> {
+fn read_passage(words: &mut SplitWhitespace<'_>) -> Result<Passage, Malformed> {
     let giver = read_u8(words)?;
     let taker = read_u8(words)?;
     let first = read_u8(words)?;
     let last = read_u8(words)?;
-    let quantity = next_word(words)?.parse()?;
-    Ok(Call::Move {
+    Ok(Passage {
         giver,
         taker,
         first,
         last,
-        quantity,
     })
+}
+
+fn read_move<Q: Written>(words: &mut SplitWhitespace<'_>) -> Result<Call<Q>, Malformed> {
+    let passage = read_passage(words)?;
+    let quantity = next_word(words)?.parse()?;
+    Ok(Call::Move { passage, quantity })
 }
 
 fn read_holding<Q>(words: &mut SplitWhitespace<'_>) -> Result<Call<Q>, Malformed> {
