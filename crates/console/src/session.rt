@@ -2,6 +2,7 @@ ghost use Rattle.std.specs.Prelude.{◌++◌, Some, codes, decimal};
 
 use crate::choice::Choice;
 use crate::fault::Fault;
+use crate::report::Report;
 use book::interface::Book;
 use full_book::stored::StoredFullBook;
 use limit_layer::layer::LimitLayer;
@@ -21,6 +22,18 @@ pub struct Tally {
     pub taken: u64,
     pub refused: u64,
     pub not_understood: u64,
+}
+
+impl Tally {
+    // Counts what a line came to.
+    fn count<T>(&mut self, outcome: &Result<T, Fault>) {
+        let lines = match outcome {
+            Ok(_) => &mut self.taken,
+            Err(Fault::Refused(_)) => &mut self.refused,
+            Err(Fault::Malformed(_)) => &mut self.not_understood,
+        };
+        *lines = lines.saturating_add(1);
+    }
 }
 
 impl fmt::Display for Tally {
@@ -63,21 +76,9 @@ impl<'a, R: Print + AllocGlobal> Session<'a, R> {
         place: usize,
         outcome: Result<T, Fault>,
     ) -> io::Result<()> {
-        match outcome {
-            Ok(done) => {
-                self.tally.taken = self.tally.taken.saturating_add(1);
-                println!(self.rt; "{done}")
-            }
-            Err(Fault::Refused(not_done)) => {
-                self.tally.refused = self.tally.refused.saturating_add(1);
-                println!(self.rt; "refused {not_done}")
-            }
-            Err(Fault::Malformed(what)) => {
-                self.tally.not_understood = self.tally.not_understood.saturating_add(1);
-                let number = place.saturating_add(1);
-                println!(self.rt; "line {number}: {what}")
-            }
-        }
+        self.tally.count(&outcome);
+        let number = place.saturating_add(1);
+        println!(self.rt; "{}", Report { number, outcome })
     }
 
     // Takes the settings of a script up to its first call, and tells that call's place and service.

@@ -1,0 +1,24 @@
+ghost use Rattle.console.specs.Reports.{report_text};
+
+use crate::fault::Fault;
+use std::fmt;
+
+/// What is printed of a line: its number, and what it came to.
+#[derive(Clone, Copy, PartialEq, Eq, Debug)]
+pub(crate) struct Report<T> {
+    pub(crate) number: usize,
+    pub(crate) outcome: Result<T, Fault>,
+}
+
+impl<T: fmt::Display> fmt::Display for Report<T> {
+    ghost output = { λ x. report_text T.output x.number x.outcome };
+
+    fn fmt<W: fmt::Write>(&self, f: &mut fmt::Formatter<W>) -> fmt::Result {
+        let number = self.number;
+        match &self.outcome {
+            Ok(done) => write!(f, "{done}"),
+            Err(Fault::Refused(not_done)) => write!(f, "refused {not_done}"),
+            Err(Fault::Malformed(what)) => write!(f, "line {number}: {what}"),
+        }
+    }
+}
