@@ -1,3 +1,8 @@
+ghost use Rattle.std.specs.Prelude.{◌≡◌, ◌∷◌, codes, Ok, IfOk};
+ghost use Rattle.std.specs.Str.Iter.{split_whitespace_rest};
+ghost use Rattle.script.specs.Lines.{NumberWords, PassageWords, SettingWords, ChangeWords, CallWords, TellsCall, TellsLine, call_word, setting_word};
+ghost use Rattle.script.specs.Words.{TakesWords};
+
 use crate::calls::{Call, HoldingChange};
 use crate::malformed::Malformed;
 use crate::quantities::Written;
@@ -8,15 +13,21 @@ use refusals::passage::Passage;
 use std::str::{FromStr, SplitWhitespace};
 
 // The next word, as a provider or a quarter.
-fn read_u8(words: &mut SplitWhitespace<'_>) -> Result<u8, Malformed> {
+fn read_u8(words: &mut SplitWhitespace<'_>) -> Result<u8, Malformed>
+    ensures { IfOk result (λ n. NumberWords (λ taken. TakesWords (split_whitespace_rest words.old) taken (split_whitespace_rest words.new)) n) }
+{
     number(next_word(words)?, Malformed::NumberTooLarge)
 }
 
-fn read_service(words: &mut SplitWhitespace<'_>) -> Result<Setting, Malformed> {
+fn read_service(words: &mut SplitWhitespace<'_>) -> Result<Setting, Malformed>
+    ensures { IfOk result (λ setting. (setting_word setting ≡ codes "service") × SettingWords (λ taken. TakesWords (split_whitespace_rest words.old) taken (split_whitespace_rest words.new)) setting) }
+{
     Ok(Setting::Service(next_word(words)?.parse()?))
 }
 
-fn read_books(words: &mut SplitWhitespace<'_>) -> Result<Setting, Malformed> {
+fn read_books(words: &mut SplitWhitespace<'_>) -> Result<Setting, Malformed>
+    ensures { IfOk result (λ setting. (setting_word setting ≡ codes "books") × SettingWords (λ taken. TakesWords (split_whitespace_rest words.old) taken (split_whitespace_rest words.new)) setting) }
+{
     match next_word(words)? {
         "full" => Ok(Setting::Books(Bottom::Full)),
         "sparse" => {
@@ -27,11 +38,15 @@ fn read_books(words: &mut SplitWhitespace<'_>) -> Result<Setting, Malformed> {
     }
 }
 
-fn read_limits(words: &mut SplitWhitespace<'_>) -> Result<Setting, Malformed> {
+fn read_limits(words: &mut SplitWhitespace<'_>) -> Result<Setting, Malformed>
+    ensures { IfOk result (λ setting. (setting_word setting ≡ codes "limits") × SettingWords (λ taken. TakesWords (split_whitespace_rest words.old) taken (split_whitespace_rest words.new)) setting) }
+{
     Ok(Setting::Limits(next_word(words)?.parse()?))
 }
 
-fn read_limit(words: &mut SplitWhitespace<'_>) -> Result<Setting, Malformed> {
+fn read_limit(words: &mut SplitWhitespace<'_>) -> Result<Setting, Malformed>
+    ensures { IfOk result (λ setting. (setting_word setting ≡ codes "limit") × SettingWords (λ taken. TakesWords (split_whitespace_rest words.old) taken (split_whitespace_rest words.new)) setting) }
+{
     let provider = read_u8(words)?;
     let direction: Direction = next_word(words)?.parse()?;
     let tenths = number(next_word(words)?, Malformed::LimitTooLarge)?;
@@ -42,27 +57,42 @@ fn read_limit(words: &mut SplitWhitespace<'_>) -> Result<Setting, Malformed> {
     })
 }
 
+// The setting whose first word this is.
+fn read_setting(first: &str, words: &mut SplitWhitespace<'_>) -> Result<Setting, Malformed>
+    ensures { IfOk result (λ setting. (setting_word setting ≡ first.now) × SettingWords (λ taken. TakesWords (split_whitespace_rest words.old) taken (split_whitespace_rest words.new)) setting) }
+{
+    match first {
+        "service" => read_service(words),
+        "books" => read_books(words),
+        "limits" => read_limits(words),
+        "limit" => read_limit(words),
+        _ => Err(Malformed::UnknownWord),
+    }
+}
+
 /// What a line is, or what is wrong with it; a call is not read yet.
 impl FromStr for Line {
     type Err = Malformed;
 
+    ghost from_str_gives = { λ line r. IfOk r (TellsLine line) };
+
     fn from_str(line: &str) -> Result<Line, Malformed> {
         let mut words = without_comment(line).split_whitespace();
-        let setting = match words.next() {
-            None => return Ok(Line::Blank),
-            Some("service") => read_service(&mut words)?,
-            Some("books") => read_books(&mut words)?,
-            Some("limits") => read_limits(&mut words)?,
-            Some("limit") => read_limit(&mut words)?,
-            Some("raise" | "lower" | "move" | "holding" | "free") => return Ok(Line::Call),
-            Some(_) => return Err(Malformed::UnknownWord),
-        };
-        no_more(&mut words)?;
-        Ok(Line::Setting(setting))
+        match words.next() {
+            None => Ok(Line::Blank),
+            Some("raise" | "lower" | "move" | "holding" | "free") => Ok(Line::Call),
+            Some(first) => {
+                let setting = read_setting(first, &mut words)?;
+                no_more(&mut words)?;
+                Ok(Line::Setting(setting))
+            }
+        }
     }
 }
 
-fn read_change<Q: Written>(words: &mut SplitWhitespace<'_>) -> Result<HoldingChange<Q>, Malformed> {
+fn read_change<Q: Written>(words: &mut SplitWhitespace<'_>) -> Result<HoldingChange<Q>, Malformed>
+    ensures { IfOk result (λ change. ChangeWords (λ word q. Q.FromStr.from_str_gives word (Ok q)) (λ taken. TakesWords (split_whitespace_rest words.old) taken (split_whitespace_rest words.new)) change) }
+{
     let provider = read_u8(words)?;
     let quarter = read_u8(words)?;
     let quantity = next_word(words)?.parse()?;
@@ -73,7 +103,9 @@ fn read_change<Q: Written>(words: &mut SplitWhitespace<'_>) -> Result<HoldingCha
     })
 }
 
-fn read_passage(words: &mut SplitWhitespace<'_>) -> Result<Passage, Malformed> {
+fn read_passage(words: &mut SplitWhitespace<'_>) -> Result<Passage, Malformed>
+    ensures { IfOk result (λ passage. PassageWords (λ taken. TakesWords (split_whitespace_rest words.old) taken (split_whitespace_rest words.new)) passage) }
+{
     let giver = read_u8(words)?;
     let taker = read_u8(words)?;
     let first = read_u8(words)?;
@@ -86,22 +118,28 @@ fn read_passage(words: &mut SplitWhitespace<'_>) -> Result<Passage, Malformed> {
     })
 }
 
-fn read_move<Q: Written>(words: &mut SplitWhitespace<'_>) -> Result<Call<Q>, Malformed> {
+fn read_move<Q: Written>(words: &mut SplitWhitespace<'_>) -> Result<Call<Q>, Malformed>
+    ensures { IfOk result (λ call. (call_word call ≡ codes "move") × CallWords (λ word q. Q.FromStr.from_str_gives word (Ok q)) (λ taken. TakesWords (split_whitespace_rest words.old) taken (split_whitespace_rest words.new)) call) }
+{
     let passage = read_passage(words)?;
     let quantity = next_word(words)?.parse()?;
     Ok(Call::Move { passage, quantity })
 }
 
-fn read_holding<Q>(words: &mut SplitWhitespace<'_>) -> Result<Call<Q>, Malformed> {
+fn read_holding<Q: Written>(words: &mut SplitWhitespace<'_>) -> Result<Call<Q>, Malformed>
+    ensures { IfOk result (λ call. (call_word call ≡ codes "holding") × CallWords (λ word q. Q.FromStr.from_str_gives word (Ok q)) (λ taken. TakesWords (split_whitespace_rest words.old) taken (split_whitespace_rest words.new)) call) }
+{
     let provider = read_u8(words)?;
     let quarter = read_u8(words)?;
     Ok(Call::Holding { provider, quarter })
 }
 
-fn read_words<Q: Written>(words: &mut SplitWhitespace<'_>) -> Result<Call<Q>, Malformed> {
+fn read_words<Q: Written>(words: &mut SplitWhitespace<'_>) -> Result<Call<Q>, Malformed>
+    ensures { IfOk result (λ call. CallWords (λ word q. Q.FromStr.from_str_gives word (Ok q)) (λ taken. TakesWords (split_whitespace_rest words.old) (call_word call ∷ taken) (split_whitespace_rest words.new)) call) }
+{
     match next_word(words)? {
-        "raise" => read_change(words).map(Call::Raise),
-        "lower" => read_change(words).map(Call::Lower),
+        "raise" => Ok(Call::Raise(read_change(words)?)),
+        "lower" => Ok(Call::Lower(read_change(words)?)),
         "move" => read_move(words),
         "holding" => read_holding(words),
         "free" => Ok(Call::Free),
@@ -112,6 +150,8 @@ fn read_words<Q: Written>(words: &mut SplitWhitespace<'_>) -> Result<Call<Q>, Ma
 /// The call of a line, or what is wrong with it.
 impl<Q: Written> FromStr for Call<Q> {
     type Err = Malformed;
+
+    ghost from_str_gives = { λ line r. IfOk r (TellsCall (λ word q. Q.FromStr.from_str_gives word (Ok q)) line) };
 
     fn from_str(line: &str) -> Result<Call<Q>, Malformed> {
         let mut words = without_comment(line).split_whitespace();

@@ -1,4 +1,7 @@
-ghost use Rattle.std.specs.Prelude.{Ok, IfOk};
+ghost use Rattle.std.specs.Prelude.{◌≡◌, [], ◌∷◌, Ok, IfOk, OnOk};
+ghost use Rattle.std.specs.Str.Iter.{split_whitespace_rest};
+ghost use Rattle.std.specs.Str.Parse.{IsNumeral};
+ghost use Rattle.script.specs.Words.{HasWords, TakesWords, before_comment};
 
 use crate::malformed::Malformed;
 use quantity::reading::is_number;
@@ -9,7 +12,8 @@ pub fn number<N: FromStr>(word: &str, too_large: Malformed) -> Result<N, Malform
 where
     N: Drop,
     N::Err: Drop,
-    ensures { IfOk result (λ n. N.from_str_gives word.now (Ok n)) }
+    ensures value { IfOk result (λ n. N.from_str_gives word.now (Ok n)) }
+    ensures digits { OnOk result (IsNumeral 10 word.now) }
 {
     if !is_number(word) {
         return Err(Malformed::NotANumber);
@@ -18,17 +22,23 @@ where
 }
 
 /// A line up to its comment.
-pub fn without_comment(line: &str) -> &str {
+pub fn without_comment(line: &str) -> &str
+    ensures { result.now ≡ before_comment line.now }
+{
     line.split_once('#').map_or(line, |(call, _)| call)
 }
 
 /// The next word of a line.
-pub fn next_word<'a>(words: &mut SplitWhitespace<'a>) -> Result<&'a str, Malformed> {
+pub fn next_word<'a>(words: &mut SplitWhitespace<'a>) -> Result<&'a str, Malformed>
+    ensures { IfOk result (λ word. TakesWords (split_whitespace_rest words.old) (word.now ∷ []) (split_whitespace_rest words.new)) }
+{
     words.next().ok_or(Malformed::WordMissing)
 }
 
 /// Refuses a word that is left.
-pub fn no_more(words: &mut SplitWhitespace<'_>) -> Result<(), Malformed> {
+pub fn no_more(words: &mut SplitWhitespace<'_>) -> Result<(), Malformed>
+    ensures { OnOk result (HasWords (split_whitespace_rest words.old) []) }
+{
     match words.next() {
         None => Ok(()),
         Some(_) => Err(Malformed::WordTooMany),
