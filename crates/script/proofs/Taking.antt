@@ -1,5 +1,6 @@
 -- Words that are taken off a text one after another.
 use Rattle.std.proofs.Common.{◌≡◌, ℕ, List, [], ◌∷◌, ◌++◌, Ok, Err, Result, IfOk, append-nil, append_assoc, sym, subst}
+use Rattle.quantity.specs.declared.reading.QuantityFault.{QuantityFault}
 use Rattle.script.specs.declared.calls.Call.{Call}
 use Rattle.script.specs.declared.calls.Call.TheVariants.{Raise, Lower, Move, Holding, Free}
 use Rattle.script.specs.declared.settings.Bottom.TheVariants.{Full, Sparse}
@@ -18,12 +19,12 @@ pub has_taken : {text words rest : _} → TakesWords text words rest → HasWord
 has_taken {text} {words} taken none = subst (HasWords text) (append-nil words) (taken.before [] none)
 
 module _ {P R : Words → Type 0} (more : (words : Words) → P words → R words) where
-  pub call_words : {Q : Type 0} (Tells : List ℕ → Q → Type 0) (call : Call Q) → CallWords Tells P call → CallWords Tells R call
-  call_words Tells (Raise change) w = (w.0, w.1, w.2, w.3, w.4, w.5, more _ w.6)
-  call_words Tells (Lower change) w = (w.0, w.1, w.2, w.3, w.4, w.5, more _ w.6)
-  call_words Tells (Move passage quantity) w = (w.0, w.1, (w.2.0, w.2.1, w.2.2, w.2.3, w.2.4, w.2.5, w.2.6, w.2.7, more _ w.2.8))
-  call_words Tells (Holding p t) w = (w.0, w.1, w.2, w.3, more _ w.4)
-  call_words Tells Free w = more _ w
+  pub call_words : {Q : Type 0} (Reads : List ℕ → Result Q QuantityFault → Type 0) (call : Call Q) → CallWords Reads P call → CallWords Reads R call
+  call_words Reads (Raise change) w = (w.0, w.1, w.2, w.3, w.4, w.5, more _ w.6)
+  call_words Reads (Lower change) w = (w.0, w.1, w.2, w.3, w.4, w.5, more _ w.6)
+  call_words Reads (Move passage quantity) w = (w.0, w.1, (w.2.0, w.2.1, w.2.2, w.2.3, w.2.4, w.2.5, w.2.6, w.2.7, more _ w.2.8))
+  call_words Reads (Holding p t) w = (w.0, w.1, w.2, w.3, more _ w.4)
+  call_words Reads Free w = more _ w
 
   pub setting_words : (setting : Setting) → SettingWords P setting → SettingWords R setting
   setting_words (Service service) w = more _ w
@@ -33,15 +34,15 @@ module _ {P R : Words → Type 0} (more : (words : Words) → P words → R word
   setting_words (Limit p d t) w = (w.0, w.1, w.2, w.3, more _ w.4)
 
 -- a call after its first word
-pub call_after_word : {Q F : Type 0} (Tells : List ℕ → Q → Type 0) (text word next rest : List ℕ) (r : Result (Call Q) F) → IfOk r (λ call. (call_word call ≡ word) × CallWords Tells (λ taken. TakesWords next taken rest) call) → TakesWords text (word ∷ []) next → IfOk r (λ call. CallWords Tells (λ taken. TakesWords text (call_word call ∷ taken) rest) call)
-call_after_word Tells text word next rest (Ok call) told first =
-    call_words (λ words later. subst (λ w. TakesWords text (w ∷ words) rest) (sym told.0) (taken_then first later)) Tells call told.1
-call_after_word Tells text word next rest (Err fault) told first = told
+pub call_after_word : {Q F : Type 0} (Reads : List ℕ → Result Q QuantityFault → Type 0) (text word next rest : List ℕ) (r : Result (Call Q) F) → IfOk r (λ call. (call_word call ≡ word) × CallWords Reads (λ taken. TakesWords next taken rest) call) → TakesWords text (word ∷ []) next → IfOk r (λ call. CallWords Reads (λ taken. TakesWords text (call_word call ∷ taken) rest) call)
+call_after_word Reads text word next rest (Ok call) told first =
+    call_words (λ words later. subst (λ w. TakesWords text (w ∷ words) rest) (sym told.0) (taken_then first later)) Reads call told.1
+call_after_word Reads text word next rest (Err fault) told first = told
 
 -- a whole line whose text was taken word by word
-pub call_taken : {Q : Type 0} (Tells : List ℕ → Q → Type 0) (line text rest : List ℕ) (call : Call Q) → text ≡ before_comment line → CallWords Tells (λ taken. TakesWords text (call_word call ∷ taken) rest) call → HasWords rest [] → TellsCall Tells line call
-call_taken Tells line text rest call is told none =
-    call_words (λ words taken. subst (λ t. HasWords t (call_word call ∷ words)) is (has_taken {text = text} {words = call_word call ∷ words} taken none)) Tells call told
+pub call_taken : {Q : Type 0} (Reads : List ℕ → Result Q QuantityFault → Type 0) (line text rest : List ℕ) (call : Call Q) → text ≡ before_comment line → CallWords Reads (λ taken. TakesWords text (call_word call ∷ taken) rest) call → HasWords rest [] → TellsCall Reads line call
+call_taken Reads line text rest call is told none =
+    call_words (λ words taken. subst (λ t. HasWords t (call_word call ∷ words)) is (has_taken {text = text} {words = call_word call ∷ words} taken none)) Reads call told
 
 pub setting_taken : (line text word next rest : List ℕ) (setting : Setting) → text ≡ before_comment line → TakesWords text (word ∷ []) next → (setting_word setting ≡ word) × SettingWords (λ taken. TakesWords next taken rest) setting → HasWords rest [] → TellsLine line (OfSetting setting)
 setting_taken line text word next rest setting is first told none =

@@ -1,7 +1,8 @@
 -- Which words of a line tell a call or a setting. Each P below is to hold of some words that do.
-use Rattle.std.specs.Prelude.{◌≡◌, ℕ, List, [], ◌∷◌, ◌++◌, codes, ◌⊎◌}
+use Rattle.std.specs.Prelude.{◌≡◌, ℕ, List, [], ◌∷◌, ◌++◌, codes, Ok, Result, ◌⊎◌}
 use Rattle.quantity.specs.Directions.{text as direction_text}
 use Rattle.quantity.specs.Written.{Writes}
+use Rattle.quantity.specs.declared.reading.QuantityFault.{QuantityFault}
 use Rattle.refusals.specs.declared.passage.Passage.{Passage}
 use Rattle.script.specs.declared.calls.HoldingChange.{HoldingChange}
 use Rattle.script.specs.declared.calls.Call.{Call}
@@ -50,25 +51,25 @@ module _ (P : Words → Type 0) where
   SettingWords (Limits switch) = P (switch_text switch ∷ [])
   SettingWords (Limit p d t) = (provider : List ℕ) × (tenths : List ℕ) × Writes provider p × Writes tenths t × P (provider ∷ direction_text d ∷ tenths ∷ [])
 
--- a quantity is told by the words that Tells says
-module _ {Q : Type 0} (Tells : List ℕ → Q → Type 0) (P : Words → Type 0) where
+-- Reads says what a word may be read as where a quantity stands
+module _ {Q : Type 0} (Reads : List ℕ → Result Q QuantityFault → Type 0) (P : Words → Type 0) where
   -- a change: provider, quarter and quantity
   abbrev pub ChangeWords : HoldingChange Q → Type 0
   ChangeWords change = (provider : List ℕ) × (quarter : List ℕ) × (quantity : List ℕ)
-      × Writes provider change.provider × Writes quarter change.quarter × Tells quantity change.quantity
+      × Writes provider change.provider × Writes quarter change.quarter × Reads quantity (Ok change.quantity)
       × P (provider ∷ quarter ∷ quantity ∷ [])
 
   -- a call, after its first word
   abbrev pub CallWords : Call Q → Type 0
   CallWords (Raise change) = ChangeWords change
   CallWords (Lower change) = ChangeWords change
-  CallWords (Move passage quantity) = (word : List ℕ) × Tells word quantity × PassageWords (λ words. P (words ++ (word ∷ []))) passage
+  CallWords (Move passage quantity) = (word : List ℕ) × Reads word (Ok quantity) × PassageWords (λ words. P (words ++ (word ∷ []))) passage
   CallWords (Holding p t) = (provider : List ℕ) × (quarter : List ℕ) × Writes provider p × Writes quarter t × P (provider ∷ quarter ∷ [])
   CallWords Free = P []
 
 -- the words of a line up to its comment tell this call
-abbrev pub TellsCall : {Q : Type 0} → (List ℕ → Q → Type 0) → List ℕ → Call Q → Type 0
-TellsCall Tells line call = CallWords Tells (λ words. HasWords (before_comment line) (call_word call ∷ words)) call
+abbrev pub TellsCall : {Q : Type 0} → (List ℕ → Result Q QuantityFault → Type 0) → List ℕ → Call Q → Type 0
+TellsCall Reads line call = CallWords Reads (λ words. HasWords (before_comment line) (call_word call ∷ words)) call
 
 abbrev pub IsCallWord : List ℕ → Type 0
 IsCallWord word = (word ≡ codes "raise") ⊎ ((word ≡ codes "lower") ⊎ ((word ≡ codes "move") ⊎ ((word ≡ codes "holding") ⊎ (word ≡ codes "free"))))

@@ -1,7 +1,6 @@
-ghost use Rattle.std.specs.Prelude.{◌≡◌, ◌∷◌, codes, Ok, IfOk};
-ghost use Rattle.std.specs.Str.Iter.{split_whitespace_rest};
+ghost use Rattle.std.specs.Prelude.{◌≡◌, ◌∷◌, codes, IfOk};
 ghost use Rattle.script.specs.Lines.{NumberWords, PassageWords, SettingWords, ChangeWords, CallWords, TellsCall, TellsLine, call_word, setting_word};
-ghost use Rattle.script.specs.Words.{TakesWords};
+ghost use Rattle.script.specs.Words.{Takes};
 
 use crate::calls::{Call, HoldingChange};
 use crate::malformed::Malformed;
@@ -14,19 +13,19 @@ use std::str::{FromStr, SplitWhitespace};
 
 // The next word, as a provider or a quarter.
 fn read_u8(words: &mut SplitWhitespace<'_>) -> Result<u8, Malformed>
-    ensures { IfOk result (λ n. NumberWords (λ taken. TakesWords (split_whitespace_rest words.old) taken (split_whitespace_rest words.new)) n) }
+    ensures { IfOk result (NumberWords (Takes words.old words.new)) }
 {
     number(next_word(words)?, Malformed::NumberTooLarge)
 }
 
 fn read_service(words: &mut SplitWhitespace<'_>) -> Result<Setting, Malformed>
-    ensures { IfOk result (λ setting. (setting_word setting ≡ codes "service") × SettingWords (λ taken. TakesWords (split_whitespace_rest words.old) taken (split_whitespace_rest words.new)) setting) }
+    ensures { IfOk result (λ setting. (setting_word setting ≡ codes "service") × SettingWords (Takes words.old words.new) setting) }
 {
     Ok(Setting::Service(next_word(words)?.parse()?))
 }
 
 fn read_books(words: &mut SplitWhitespace<'_>) -> Result<Setting, Malformed>
-    ensures { IfOk result (λ setting. (setting_word setting ≡ codes "books") × SettingWords (λ taken. TakesWords (split_whitespace_rest words.old) taken (split_whitespace_rest words.new)) setting) }
+    ensures { IfOk result (λ setting. (setting_word setting ≡ codes "books") × SettingWords (Takes words.old words.new) setting) }
 {
     match next_word(words)? {
         "full" => Ok(Setting::Books(Bottom::Full)),
@@ -39,13 +38,13 @@ fn read_books(words: &mut SplitWhitespace<'_>) -> Result<Setting, Malformed>
 }
 
 fn read_limits(words: &mut SplitWhitespace<'_>) -> Result<Setting, Malformed>
-    ensures { IfOk result (λ setting. (setting_word setting ≡ codes "limits") × SettingWords (λ taken. TakesWords (split_whitespace_rest words.old) taken (split_whitespace_rest words.new)) setting) }
+    ensures { IfOk result (λ setting. (setting_word setting ≡ codes "limits") × SettingWords (Takes words.old words.new) setting) }
 {
     Ok(Setting::Limits(next_word(words)?.parse()?))
 }
 
 fn read_limit(words: &mut SplitWhitespace<'_>) -> Result<Setting, Malformed>
-    ensures { IfOk result (λ setting. (setting_word setting ≡ codes "limit") × SettingWords (λ taken. TakesWords (split_whitespace_rest words.old) taken (split_whitespace_rest words.new)) setting) }
+    ensures { IfOk result (λ setting. (setting_word setting ≡ codes "limit") × SettingWords (Takes words.old words.new) setting) }
 {
     let provider = read_u8(words)?;
     let direction: Direction = next_word(words)?.parse()?;
@@ -59,7 +58,7 @@ fn read_limit(words: &mut SplitWhitespace<'_>) -> Result<Setting, Malformed>
 
 // The setting whose first word this is.
 fn read_setting(first: &str, words: &mut SplitWhitespace<'_>) -> Result<Setting, Malformed>
-    ensures { IfOk result (λ setting. (setting_word setting ≡ first.now) × SettingWords (λ taken. TakesWords (split_whitespace_rest words.old) taken (split_whitespace_rest words.new)) setting) }
+    ensures { IfOk result (λ setting. (setting_word setting ≡ first.now) × SettingWords (Takes words.old words.new) setting) }
 {
     match first {
         "service" => read_service(words),
@@ -91,7 +90,7 @@ impl FromStr for Line {
 }
 
 fn read_change<Q: Written>(words: &mut SplitWhitespace<'_>) -> Result<HoldingChange<Q>, Malformed>
-    ensures { IfOk result (λ change. ChangeWords (λ word q. Q.FromStr.from_str_gives word (Ok q)) (λ taken. TakesWords (split_whitespace_rest words.old) taken (split_whitespace_rest words.new)) change) }
+    ensures { IfOk result (ChangeWords Q.FromStr.from_str_gives (Takes words.old words.new)) }
 {
     let provider = read_u8(words)?;
     let quarter = read_u8(words)?;
@@ -104,7 +103,7 @@ fn read_change<Q: Written>(words: &mut SplitWhitespace<'_>) -> Result<HoldingCha
 }
 
 fn read_passage(words: &mut SplitWhitespace<'_>) -> Result<Passage, Malformed>
-    ensures { IfOk result (λ passage. PassageWords (λ taken. TakesWords (split_whitespace_rest words.old) taken (split_whitespace_rest words.new)) passage) }
+    ensures { IfOk result (PassageWords (Takes words.old words.new)) }
 {
     let giver = read_u8(words)?;
     let taker = read_u8(words)?;
@@ -119,7 +118,7 @@ fn read_passage(words: &mut SplitWhitespace<'_>) -> Result<Passage, Malformed>
 }
 
 fn read_move<Q: Written>(words: &mut SplitWhitespace<'_>) -> Result<Call<Q>, Malformed>
-    ensures { IfOk result (λ call. (call_word call ≡ codes "move") × CallWords (λ word q. Q.FromStr.from_str_gives word (Ok q)) (λ taken. TakesWords (split_whitespace_rest words.old) taken (split_whitespace_rest words.new)) call) }
+    ensures { IfOk result (λ call. (call_word call ≡ codes "move") × CallWords Q.FromStr.from_str_gives (Takes words.old words.new) call) }
 {
     let passage = read_passage(words)?;
     let quantity = next_word(words)?.parse()?;
@@ -127,7 +126,7 @@ fn read_move<Q: Written>(words: &mut SplitWhitespace<'_>) -> Result<Call<Q>, Mal
 }
 
 fn read_holding<Q: Written>(words: &mut SplitWhitespace<'_>) -> Result<Call<Q>, Malformed>
-    ensures { IfOk result (λ call. (call_word call ≡ codes "holding") × CallWords (λ word q. Q.FromStr.from_str_gives word (Ok q)) (λ taken. TakesWords (split_whitespace_rest words.old) taken (split_whitespace_rest words.new)) call) }
+    ensures { IfOk result (λ call. (call_word call ≡ codes "holding") × CallWords Q.FromStr.from_str_gives (Takes words.old words.new) call) }
 {
     let provider = read_u8(words)?;
     let quarter = read_u8(words)?;
@@ -135,7 +134,7 @@ fn read_holding<Q: Written>(words: &mut SplitWhitespace<'_>) -> Result<Call<Q>, 
 }
 
 fn read_words<Q: Written>(words: &mut SplitWhitespace<'_>) -> Result<Call<Q>, Malformed>
-    ensures { IfOk result (λ call. CallWords (λ word q. Q.FromStr.from_str_gives word (Ok q)) (λ taken. TakesWords (split_whitespace_rest words.old) (call_word call ∷ taken) (split_whitespace_rest words.new)) call) }
+    ensures { IfOk result (λ call. CallWords Q.FromStr.from_str_gives (λ later. Takes words.old words.new (call_word call ∷ later)) call) }
 {
     match next_word(words)? {
         "raise" => Ok(Call::Raise(read_change(words)?)),
@@ -151,7 +150,7 @@ fn read_words<Q: Written>(words: &mut SplitWhitespace<'_>) -> Result<Call<Q>, Ma
 impl<Q: Written> FromStr for Call<Q> {
     type Err = Malformed;
 
-    ghost from_str_gives = { λ line r. IfOk r (TellsCall (λ word q. Q.FromStr.from_str_gives word (Ok q)) line) };
+    ghost from_str_gives = { λ line r. IfOk r (TellsCall Q.FromStr.from_str_gives line) };
 
     fn from_str(line: &str) -> Result<Call<Q>, Malformed> {
         let mut words = without_comment(line).split_whitespace();

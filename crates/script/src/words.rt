@@ -1,7 +1,7 @@
 ghost use Rattle.std.specs.Prelude.{◌≡◌, [], ◌∷◌, Ok, IfOk, OnOk};
 ghost use Rattle.std.specs.Str.Iter.{split_whitespace_rest};
 ghost use Rattle.std.specs.Str.Parse.{IsNumeral};
-ghost use Rattle.script.specs.Words.{HasWords, TakesWords, before_comment};
+ghost use Rattle.script.specs.Words.{HasWords, Takes, before_comment};
 
 use crate::malformed::Malformed;
 use quantity::reading::is_number;
@@ -30,7 +30,7 @@ pub fn without_comment(line: &str) -> &str
 
 /// The next word of a line.
 pub fn next_word<'a>(words: &mut SplitWhitespace<'a>) -> Result<&'a str, Malformed>
-    ensures { IfOk result (λ word. TakesWords (split_whitespace_rest words.old) (word.now ∷ []) (split_whitespace_rest words.new)) }
+    ensures { IfOk result (λ word. Takes words.old words.new (word.now ∷ [])) }
 {
     words.next().ok_or(Malformed::WordMissing)
 }

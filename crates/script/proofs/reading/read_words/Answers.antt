@@ -17,9 +17,9 @@ returns-in_ok-read_change-in-lower g c =
 pub returns-in-move : goal.returns-in-move
 returns-in-move g c =
     let first = rw c.in-move.is at c.in_ok-next_word.ensures in
-    call_after_word _ (split_whitespace_rest c.args.words.now) _ (split_whitespace_rest c.next_word.new.words) (split_whitespace_rest c.read_move.new.words) c.read_move.result c.read_move.ensures first
+    call_after_word g.Q.FromStr.from_str_gives (split_whitespace_rest c.args.words.now) _ (split_whitespace_rest c.next_word.new.words) (split_whitespace_rest c.read_move.new.words) c.read_move.result c.read_move.ensures first
 
 pub returns-in-holding : goal.returns-in-holding
 returns-in-holding g c =
     let first = rw c.in-holding.is at c.in_ok-next_word.ensures in
-    call_after_word _ (split_whitespace_rest c.args.words.now) _ (split_whitespace_rest c.next_word.new.words) (split_whitespace_rest c.read_holding.new.words) c.read_holding.result c.read_holding.ensures first
+    call_after_word g.Q.FromStr.from_str_gives (split_whitespace_rest c.args.words.now) _ (split_whitespace_rest c.next_word.new.words) (split_whitespace_rest c.read_holding.new.words) c.read_holding.result c.read_holding.ensures first
