@@ -2,12 +2,12 @@ use crate::fault::Fault;
 use limit_layer::table::LimitTable;
 use quantity::afrr::Band;
 use quantity::fcr::Volume;
+use script::calls::Call;
 use script::malformed::Malformed;
-use script::reading::read_call;
 use script::settings::{Bottom, Service, Setting, Switch};
 
 /// What the script has chosen so far.
-#[derive(Clone, Copy)]
+#[derive(Clone, Copy, PartialEq, Eq, Debug)]
 pub(crate) struct Choice {
     pub(crate) service: Option<Service>,
     pub(crate) bottom: Bottom,
@@ -64,8 +64,8 @@ impl Choice {
     pub(crate) fn open(&self, line: &str) -> Result<Service, Malformed> {
         let service = self.service.ok_or(Malformed::ServiceFirst)?;
         match service {
-            Service::Fcr => read_call::<Volume>(line).and(Ok(service)),
-            Service::Afrr => read_call::<Band>(line).and(Ok(service)),
+            Service::Fcr => line.parse::<Call<Volume>>().and(Ok(service)),
+            Service::Afrr => line.parse::<Call<Band>>().and(Ok(service)),
         }
     }
 }

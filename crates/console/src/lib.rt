@@ -2,4 +2,5 @@
 
 mod choice;
 mod fault;
+mod report;
 pub mod session;

@@ -1,17 +1,17 @@
-ghost use Rattle.std.specs.Prelude.{◌++◌, Some, codes, decimal};
+ghost use Rattle.std.specs.Prelude.{◌≡◌, ◌++◌, Some, codes, decimal};
+ghost use Rattle.console.specs.Tallies.{counted};
 
 use crate::choice::Choice;
 use crate::fault::Fault;
+use crate::report::{Done, Report};
 use book::interface::Book;
 use full_book::stored::StoredFullBook;
 use limit_layer::layer::LimitLayer;
 use quantity::afrr::Band;
 use quantity::fcr::Volume;
-use script::calls::Answer;
 use script::perform::perform;
 use script::quantities::Written;
-use script::reading::{read_call, read_line};
-use script::settings::{Bottom, Line, Service, Setting, Switch};
+use script::settings::{Bottom, Line, Service, Switch};
 use sparse_book::stored::StoredSparseBook;
 use std::io::Read;
 use std::{fmt, io};
@@ -22,6 +22,19 @@ pub struct Tally {
     pub taken: u64,
     pub refused: u64,
     pub not_understood: u64,
+}
+
+impl Tally {
+    // Counts what a line came to.
+    fn count<T>(&mut self, outcome: &Result<T, Fault>)
+        ensures { self.new ≡ counted self.old outcome.now }
+    {
+        match outcome {
+            Ok(_) => self.taken = self.taken.saturating_add(1),
+            Err(Fault::Refused(_)) => self.refused = self.refused.saturating_add(1),
+            Err(Fault::Malformed(_)) => self.not_understood = self.not_understood.saturating_add(1),
+        }
+    }
 }
 
 impl fmt::Display for Tally {
@@ -49,14 +62,6 @@ struct Session<'a, R> {
     tally: Tally,
 }
 
-// Makes the call of a line.
-fn call_book<B: Book>(book: &mut B, line: &str) -> Result<Answer<B::Q>, Fault>
-where
-    B::Q: Written,
-{
-    Ok(perform(book, read_call(line)?)?)
-}
-
 impl<'a, R: Print + AllocGlobal> Session<'a, R> {
     // Prints what a line comes to, and counts it.
     fn tell<T: fmt::Display + Drop>(
@@ -64,64 +69,49 @@ impl<'a, R: Print + AllocGlobal> Session<'a, R> {
         place: usize,
         outcome: Result<T, Fault>,
     ) -> io::Result<()> {
-        match outcome {
-            Ok(done) => {
-                self.tally.taken = self.tally.taken.saturating_add(1);
-                println!(self.rt; "{done}")
-            }
-            Err(Fault::Refused(not_done)) => {
-                self.tally.refused = self.tally.refused.saturating_add(1);
-                println!(self.rt; "refused {not_done}")
-            }
-            Err(Fault::Malformed(what)) => {
-                self.tally.not_understood = self.tally.not_understood.saturating_add(1);
-                let number = place.saturating_add(1);
-                println!(self.rt; "line {number}: {what}")
-            }
-        }
+        self.tally.count(&outcome);
+        let number = place.saturating_add(1);
+        println!(self.rt; "{}", Report { number, outcome })
     }
 
     // Takes the settings of a script up to its first call, and tells that call's place and service.
     fn settle(&mut self) -> io::Result<Option<(usize, Service)>> {
         for (place, line) in self.text.lines().enumerate() {
-            let outcome = match read_line(line) {
+            let outcome = match line.parse() {
                 Ok(Line::Blank) => continue,
                 Ok(Line::Setting(setting)) => self.choice.take_early(setting),
                 Ok(Line::Call) => match self.choice.open(line) {
                     Ok(service) => return Ok(Some((place, service))),
-                    Err(what) => Err(Fault::from(what)),
+                    Err(what) => Err(what.into()),
                 },
-                Err(what) => Err(Fault::from(what)),
+                Err(what) => Err(what.into()),
             };
             self.tell(place, outcome)?;
         }
         Ok(None)
     }
 
-    // Does a line once the books are open.
-    fn run_line<B: Book>(&mut self, place: usize, line: &str, book: &mut B) -> io::Result<()>
+    // Does a line once the books are open; nothing comes of a blank one.
+    fn run_line<B: Book>(&mut self, line: &str, book: &mut B) -> Result<Option<Done<B::Q>>, Fault>
     where
         B::Q: Written,
     {
-        match read_line(line) {
-            Ok(Line::Blank) => Ok(()),
-            Ok(Line::Setting(setting)) => {
-                let outcome = self.choice.take_late(setting);
-                self.tell(place, outcome)
-            }
-            Ok(Line::Call) => self.tell(place, call_book(book, line)),
-            Err(what) => self.tell::<Setting>(place, Err(Fault::from(what))),
-        }
+        Ok(match line.parse()? {
+            Line::Blank => None,
+            Line::Setting(setting) => Some(Done::Set(self.choice.take_late(setting)?)),
+            Line::Call => Some(Done::Called(perform(book, line.parse()?)?)),
+        })
     }
 
     // Does the lines from a place on.
-    fn run_lines<B: Book>(&mut self, from: usize, mut book: B) -> io::Result<()>
+    fn run_lines<B: Book + Drop>(&mut self, from: usize, mut book: B) -> io::Result<()>
     where
-        B: Drop,
         B::Q: Written,
     {
         for (place, line) in self.text.lines().enumerate().skip(from) {
-            self.run_line(place, line, &mut book)?;
+            if let Some(outcome) = self.run_line(line, &mut book).transpose() {
+                self.tell(place, outcome)?;
+            }
         }
         Ok(())
     }

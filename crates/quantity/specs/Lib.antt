@@ -6,3 +6,4 @@ pub mod Afrr
 pub mod AfrrLaws
 pub mod Texts
 pub mod Reading
+pub mod Written

@@ -43,15 +43,15 @@ done_move (Some refusal) = record { numbers = answer_number (Some refusal); quan
 
 module _ {Q R : Type 0} (m : Measure Q R) (held : Grid Q) (places : ℕ) (admission : ℕ → ℕ → Q → Admission) where
   abbrev pub answered : Call Q → Said Q
-  answered (Raise p t q) = done 1 (raise_refusal m held places admission p t q)
-  answered (Lower p t q) = done 2 (lower_refusal m held places p t q)
-  answered (Move giver taker first last q) = done_move (move_refusal m held places admission giver taker first last q)
+  answered (Raise change) = done 1 (raise_refusal m held places admission change.provider change.quarter change.quantity)
+  answered (Lower change) = done 2 (lower_refusal m held places change.provider change.quarter change.quantity)
+  answered (Move passage q) = done_move (move_refusal m held places admission passage.giver passage.taker passage.first passage.last q)
   answered (Holding p t) = record { numbers = 0 ∷ (3 ∷ []); quantity = Some (held_at m held p t) }
   answered Free = record { numbers = 0 ∷ (4 ∷ ((places - taken m held) ∷ [])); quantity = None }
 
   abbrev pub after : Call Q → Grid m.Amount
-  after (Raise p t q) = raised m held places admission p t q
-  after (Lower p t q) = lowered m held places p t q
-  after (Move giver taker first last q) = move_after m held places admission giver taker first last q
+  after (Raise change) = raised m held places admission change.provider change.quarter change.quantity
+  after (Lower change) = lowered m held places change.provider change.quarter change.quantity
+  after (Move passage q) = move_after m held places admission passage.giver passage.taker passage.first passage.last q
   after (Holding p t) = amounts m held
   after Free = amounts m held

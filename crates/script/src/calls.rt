@@ -3,33 +3,25 @@ ghost use Rattle.script.specs.declared.calls.NotDone.TheVariants.{Book, Span};
 ghost use Rattle.script.specs.Texts.{answer_text, not_done_text};
 
 use book::answers::BookRefusal;
+use refusals::passage::Passage;
 use refusals::refusal::Refusal;
 use std::fmt;
+
+/// A change of one holding by a quantity.
+#[derive(Clone, Copy, PartialEq, Eq, Debug)]
+pub struct HoldingChange<Q> {
+    pub provider: u8,
+    pub quarter: u8,
+    pub quantity: Q,
+}
 
 /// A call of a book.
 #[derive(Clone, Copy, PartialEq, Eq, Debug)]
 pub enum Call<Q> {
-    Raise {
-        provider: u8,
-        quarter: u8,
-        quantity: Q,
-    },
-    Lower {
-        provider: u8,
-        quarter: u8,
-        quantity: Q,
-    },
-    Move {
-        giver: u8,
-        taker: u8,
-        first: u8,
-        last: u8,
-        quantity: Q,
-    },
-    Holding {
-        provider: u8,
-        quarter: u8,
-    },
+    Raise(HoldingChange<Q>),
+    Lower(HoldingChange<Q>),
+    Move { passage: Passage, quantity: Q },
+    Holding { provider: u8, quarter: u8 },
     Free,
 }
 

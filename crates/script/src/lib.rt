@@ -4,6 +4,6 @@ pub mod calls;
 pub mod malformed;
 pub mod perform;
 pub mod quantities;
-pub mod reading;
+mod reading;
 pub mod settings;
 pub mod words;

@@ -15,30 +15,16 @@ pub fn perform<B: Book>(book: &mut B, call: Call<B::Q>) -> Result<Answer<B::Q>, 
     ensures rest { ChangesHoldings B.places B.admission B.layer_number book.old book.new }
 {
     match call {
-        Call::Raise {
-            provider,
-            quarter,
-            quantity,
-        } => {
-            book.raise(provider, quarter, quantity)?;
+        Call::Raise(change) => {
+            book.raise(change.provider, change.quarter, change.quantity)?;
             Ok(Answer::Raised)
         }
-        Call::Lower {
-            provider,
-            quarter,
-            quantity,
-        } => {
-            book.lower(provider, quarter, quantity)?;
+        Call::Lower(change) => {
+            book.lower(change.provider, change.quarter, change.quantity)?;
             Ok(Answer::Lowered)
         }
-        Call::Move {
-            giver,
-            taker,
-            first,
-            last,
-            quantity,
-        } => {
-            move_span(book, giver, taker, first, last, quantity)?;
+        Call::Move { passage, quantity } => {
+            move_span(book, passage, quantity)?;
             Ok(Answer::Moved)
         }
         Call::Holding { provider, quarter } => Ok(Answer::Held(book.holding(provider, quarter))),
