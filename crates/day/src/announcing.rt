@@ -22,6 +22,7 @@ impl<S: BeforeGate> InStage<S> {
         let passage = said.passage;
         Provider::try_from(passage.giver)?;
         Provider::try_from(passage.taker)?;
+        // No `Span`, whose last quarter is below 100: a stage states no bound of its day's quarters.
         if passage.first > passage.last || passage.last >= self.day.quarters {
             return Err(Refusal::NoSuchSpan);
         }

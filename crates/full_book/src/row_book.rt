@@ -77,6 +77,8 @@ impl<M: Slots<Slot = K::Row>, K: Quantity> Book for RowBook<M, K> {
         0
     }
 
+    // These two bodies, `admits` and `layer` are those of the sparse book too. A trait that has them once would have to state of `change`
+    // what each of the two books promises besides, and the calls here would still have to repeat the interface's promises beside it.
     // The interface's promises once more, and two of this book's own: rows beyond 3,200 stay, and so does the loan.
     #[tactic(auto, using(book::proofs::Changes::raise_outside, book::proofs::Changes::raise_outside_after, book::proofs::Changes::raise_answer, book::proofs::Changes::raise_after))]
     fn raise(&mut self, provider: u8, quarter: u8, quantity: K) -> Result<(), BookRefusal>

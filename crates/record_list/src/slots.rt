@@ -9,6 +9,7 @@ pub trait Slots {
     ghost slots: { Self → List Self.Slot };
 
     /// The name of the loan that the slots are, if they are lent.
+    // That it stays is one equation in each contract, which no name would make shorter.
     ghost loan: { Self → Option ℕ };
 
     fn slots(&self) -> &[Self::Slot]

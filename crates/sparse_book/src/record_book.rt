@@ -91,6 +91,7 @@ impl<M: Slots<Slot = Option<Record<K::Row>>>, K: Quantity> Book for RecordBook<M
         0
     }
 
+    // The bodies of the full book: see there.
     // The interface's promises once more, and two of this book's own: which slot is taken or freed, and that the loan stays.
     #[tactic(auto, using(book::proofs::Changes::raise_outside, book::proofs::Changes::raise_outside_after, book::proofs::Changes::raise_answer, book::proofs::Changes::raise_after, crate::proofs::Calls::raise_outside_slots, crate::proofs::Calls::raise_slots))]
     fn raise(&mut self, provider: u8, quarter: u8, quantity: K) -> Result<(), BookRefusal>
