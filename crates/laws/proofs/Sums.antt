@@ -1,10 +1,9 @@
 -- Sums in the set of a quantity: rearranged, element by element, and over providers.
-use Rattle.std.proofs.Common.{◌≡◌, ℕ, zero, suc, ◌+◌, ◌<◌, ◌≤◌, Bool, cond, ◌&&◌, eqb, List, [], ◌∷◌, ◌++◌, length, set, Some, sym, refl, ◌∙◌, ⊎_elim, arith}
-use Rattle.std.proofs.lemmas.Bool.{cases_eq}
+use Rattle.std.proofs.Common.{◌≡◌, ℕ, zero, suc, ◌+◌, ◌<◌, ◌≤◌, Bool, cond, ◌&&◌, eqb, List, [], ◌∷◌, ◌++◌, length, set, Some, sym, refl, ◌∙◌, arith}
 use Rattle.std.specs.List.{slice_get}
 use Rattle.std.proofs.lemmas.Bool.Decides.{nat_tests}
 use Rattle.quantity.specs.Measure.{Measure}
-use Rattle.laws.proofs.Parts.{none_some}
+use Rattle.std.proofs.lemmas.Option.{none-some}
 use Rattle.laws.specs.Sums.{sum_from, sum_below}
 
 module _ {Q R : Type 0} (m : Measure Q R) where
@@ -33,7 +32,7 @@ module _ {Q R : Type 0} (m : Measure Q R) where
       -- one element is another one, which counts alike there
       pub sum_changed : (i k : ℕ) → place ≡ k + i → (xs : List E) (x y : E) → slice_get xs i ≡ Some x → g place y ≡ f place x → sum_from m g k (set xs i y) ≡ sum_from m f k xs
       unfolding sum_from
-      sum_changed i k p [] x y there here = absurd (none_some x there)
+      sum_changed i k p [] x y there here = absurd (none-some x there)
       sum_changed zero k p (z ∷ zs) x y there here =
           let at : place ≡ k = omega arith in
           let same : z ≡ x = cc in
@@ -59,26 +58,16 @@ module _ {Q R : Type 0} (m : Measure Q R) where
   below_plus f g zero = sym (m.neutral m.none)
   below_plus f g (suc n) = cc (below_plus f g n, swap4 (f n) (g n) (sum_below m f n) (sum_below m g n))
 
-  pub below_none : (n : ℕ) → sum_below m (λ k. m.none) n ≡ m.none
-  unfolding sum_below
-  below_none zero = refl
-  below_none (suc n) = cc (m.neutral (sum_below m (λ k. m.none) n), below_none n)
-
   -- what one provider p has, and the others do not
   abbrev pub only : ℕ → Bool → m.Amount → ℕ → m.Amount
   only p b a k = cond (eqb k p && b) a m.none
 
-  only_here : (p : ℕ) (b : Bool) (a : m.Amount) (k : ℕ) → k ≡ p → only p b a k ≡ cond b a m.none
-  only_here p b a k e = grind (arith, nat_tests)
-
-  only_else : (p : ℕ) (b : Bool) (a : m.Amount) (k : ℕ) → (k ≡ p → ⊥) → only p b a k ≡ m.none
-  only_else p b a k e = grind (arith, nat_tests)
+  below_else : (p : ℕ) (b : Bool) (a : m.Amount) (n : ℕ) → n ≤ p → sum_below m (only p b a) n ≡ m.none
+  unfolding sum_below
+  below_else p b a zero h = refl
+  below_else p b a (suc n) h = grind (arith, nat_tests, below_else p b a n (omega arith), m.neutral m.none)
 
   pub below_one : (p : ℕ) (b : Bool) (a : m.Amount) (n : ℕ) → p < n → sum_below m (only p b a) n ≡ cond b a m.none
   unfolding sum_below
   below_one p b a zero h = absurd (omega arith)
-  below_one p b a (suc n) h =
-      ⊎_elim
-      (λ (e : n ≡ p). cc (only_here p b a n e, below_alike (only p b a) (λ k. m.none) n (λ k l. only_else p b a k (λ q. omega arith)), below_none n, neutral_right (cond b a m.none)))
-      (λ (e : n ≡ p → ⊥). cc (only_else p b a n e, m.neutral (sum_below m (only p b a) n), below_one p b a n (omega arith)))
-      (cases_eq n p)
+  below_one p b a (suc n) h = grind (arith, nat_tests, below_else p b a n, below_one p b a n, m.neutral, neutral_right)
