@@ -1,10 +1,10 @@
 -- Each call of a day keeps what stands of it.
-use Rattle.std.proofs.Common.{◌≡◌, ℕ, ◌<◌, true, false, List, [], ◌∷◌, ℤ, Some, None, Option, Bor, sym, refl, subst, arith}
+use Rattle.std.proofs.Common.{◌≡◌, ℕ, ◌<◌, true, false, List, [], ◌∷◌, ℤ, Some, None, Option, Bor, refl, arith}
 use Rattle.std.proofs.lemmas.Bool.Decides.{nat_tests}
 use Rattle.std.proofs.lemmas.Grind.{common_steps}
 use Rattle.std.proofs.lemmas.List.{nil_from_length}
 use Rattle.quantity.specs.Measure.{Measure}
-use Rattle.book.specs.Grid.{Grid, amounts, taken}
+use Rattle.book.specs.Grid.{Grid, amounts}
 use Rattle.book.proofs.Counts.{nothing_zero, taken_put}
 use Rattle.refusals.specs.declared.refusal.Refusal.{Refusal}
 use Rattle.refusals.specs.First.{unless_refused}
@@ -23,7 +23,6 @@ use Rattle.day.specs.declared.stages.Day.{Day}
 use Rattle.day.specs.declared.announcing.Announcement.{Announcement}
 use Rattle.day.specs.Announcing.{at_minute, announced_list, announced_day}
 use Rattle.day.specs.Opening.{day_length, opened_day}
-use Rattle.day.specs.Gating.{gate_refusal}
 use Rattle.day_calls.specs.declared.calls.DayCall.{DayCall}
 use Rattle.day_calls.specs.declared.calls.DayCall.TheVariants.{Open, Award as AwardCall, Announce, Gate as GateCall}
 use Rattle.day_calls.specs.declared.desk.Stage.{Stage}
@@ -31,7 +30,7 @@ use Rattle.day_calls.specs.declared.desk.Stage.TheVariants.{Unopened, Announcing
 use Rattle.day_calls.specs.Answers.{Said, Outcome, numbered, said, unless}
 use Rattle.day_calls.specs.Days.{DayState, joining_before, same_stage, next_stage, open_refused, award_refused, announce_refused, answered, stage_after, held_after, requests_after, sheet_after}
 use Rattle.laws.specs.Sums.{sum_of, sum_from}
-use Rattle.laws.specs.Volumes.{Event, is_awarded, award_of, earned, last_word, from_giver, to_taker}
+use Rattle.laws.specs.Volumes.{Event, award_of, earned, last_word, from_giver, to_taker}
 use Rattle.laws.proofs.Answers.{tells_awarded, tells_placed, awarded_by, placed_by, unless_award, unless_place}
 use Rattle.laws.proofs.Stands.{AllFounded, StandsAt, awards_of, words_of, no_award, no_word, idle}
 use Rattle.laws.proofs.Gating.{gate_volume, gate_founded}
@@ -56,27 +55,16 @@ module _ {Q R : Type 0} (m : Measure Q R) (tenths : Q → ℕ → ℕ) (directio
   rests call o answers e a w stage =
       idle m tenths directions (record { call = call; answer = answer }) h (awarded_by answer (unless o answers) false e (unless_award o answers a)) (λ k. placed_by k answer (unless o answers) false e (unless_place k o answers (w k))) stage grid s.requests s.sheet
 
-  -- where no holding of the range is taken, each is zero
-  nothing_there : taken m s.held ≡ 0 → (p t : ℕ) → p < 32 → t < 100 → grid p t ≡ m.none
-  unfolding amounts
-  nothing_there e p t hp ht = grind (arith, nat_tests, taken_put m s.held p t hp ht m.nothing, nothing_zero m, m.alike_same, m.nothing_none)
-
   -- the opening
   open_by :
       (number quarters : ℕ) (o : Option Refusal) → open_refused m tenths directions s number quarters ≡ o → Before Unopened → said answer ≡ unless o (numbered (0 ∷ (1 ∷ []))) →
       After (Open number quarters) (unless_refused o (same_stage First (opened_day number quarters)) Unopened) grid s.requests (unless_refused o blank_view s.sheet)
-  unfolding sum_from
-  open_by number quarters None e x says =
-      let y = rests (Open number quarters) None (numbered (0 ∷ (1 ∷ []))) says refl (λ k. refl) Unopened x in
-      let empty : s.requests ≡ [] = grind (arith, nat_tests, nil_from_length) in
-      record {
-        volume = λ p t hp ht. rw (nothing_there (grind (arith, nat_tests)) p t hp ht, empty, (y.quiet quarters p t).0);
-        earnings = λ p l. sym (y.quiet quarters p 0).1;
-        founded = λ k. rw empty tt;
-        length = grind (arith, nat_tests);
-        quiet = tt;
-      }
-  open_by number quarters (Some r) e x says = rests (Open number quarters) (Some r) (numbered (0 ∷ (1 ∷ []))) says refl (λ k. refl) Unopened x
+  unfolding amounts sum_from
+  open_by number quarters o e x says =
+      let y = rests (Open number quarters) o (numbered (0 ∷ (1 ∷ []))) says refl (λ k. refl) Unopened x in
+      let put = λ (p t : ℕ) (hp : p < 32) (ht : t < 100). taken_put m s.held p t hp ht m.nothing in
+      let nothing_earned = λ (p : ℕ). (y.quiet quarters p 0).1 in
+      grind (arith, nat_tests, nil_from_length, nothing_zero m, m.alike_same, m.nothing_none)
 
   -- an award
   module _ (a : Award Q) (prices : Bor (List ℕ)) (day : Day) where
@@ -95,17 +83,10 @@ module _ {Q R : Type 0} (m : Measure Q R) (tenths : Q → ℕ → ℕ) (directio
         (o : Option Refusal) → award_refused m tenths directions s day a prices.now ≡ o → Before (same_stage First day) → said answer ≡ unless o (numbered (0 ∷ (2 ∷ []))) →
         After award (same_stage First day) held_by s.requests (award_sheet m s.held s.places s.admission tenths directions day.quarters a.provider a.block a.quantity prices.now s.sheet)
     unfolding sum_of earned award_after award_sheet
-    award_by None e x says =
-        let yes : is_awarded answer ≡ true = grind arith in
-        let words = no_word m tenths directions (record { call = award; answer = answer }) h (λ k. grind arith) in
-        record {
-          volume = rw words (λ p t hp ht. grind (arith, adds x.length e p t, x.volume p t hp ht, m.groups));
-          earnings = λ p hp. grind (arith, nat_tests, x.earnings p hp);
-          founded = subst (λ w. AllFounded m w s.requests) (sym words) x.founded;
-          length = x.length;
-          quiet = tt;
-        }
-    award_by (Some r) e x says = rw e (rests award (Some r) (numbered (0 ∷ (1 ∷ []))) says refl (λ k. refl) (same_stage First day) x)
+    award_by o e x says =
+        let words = no_word m tenths directions (record { call = award; answer = answer }) h (λ k. grind (arith, nat_tests)) in
+        let now = adds x.length in
+        rw words (grind (arith, nat_tests, m.groups, m.neutral))
 
   -- an announcement
   module _ (a : Announcement Q) (gate : Gate) (day : Day) where
@@ -146,10 +127,10 @@ module _ {Q R : Type 0} (m : Measure Q R) (tenths : Q → ℕ → ℕ) (directio
       (call : DayCall Q) (stage : Stage) → Before stage → said answer ≡ answered m tenths directions (at stage) call →
       After call (stage_after m tenths directions (at stage) call) (held_after m tenths directions (at stage) call) (requests_after m tenths directions (at stage) call) (sheet_after m tenths directions (at stage) call)
   unfolding answered stage_after held_after requests_after sheet_after
-  keeps (Open number quarters) Unopened x e = open_by number quarters (open_refused m tenths directions s number quarters) refl x e
-  keeps (AwardCall a prices) (InAnnouncing w) x e = award_by a prices w.day (award_refused m tenths directions s w.day a prices.now) refl x e
-  keeps (Announce a) (InAnnouncing w) x e = announce_by a First w.day (announce_refused m tenths directions s First w.day a) refl x e
-  keeps (Announce a) (InReconciling w) x e = announce_by a Second w.day (announce_refused m tenths directions s Second w.day a) refl x e
-  keeps (GateCall minute) (InAnnouncing w) x e = gate_by minute First w.day (gate_refusal First w.day minute) x e
-  keeps (GateCall minute) (InReconciling w) x e = gate_by minute Second w.day (gate_refusal Second w.day minute) x e
+  keeps (Open number quarters) Unopened x e = open_by number quarters _ refl x e
+  keeps (AwardCall a prices) (InAnnouncing w) x e = award_by a prices w.day _ refl x e
+  keeps (Announce a) (InAnnouncing w) x e = announce_by a First w.day _ refl x e
+  keeps (Announce a) (InReconciling w) x e = announce_by a Second w.day _ refl x e
+  keeps (GateCall minute) (InAnnouncing w) x e = gate_by minute First w.day _ x e
+  keeps (GateCall minute) (InReconciling w) x e = gate_by minute Second w.day _ x e
   keeps call stage x e = rests call None (answered m tenths directions (at stage) call) e (grind (arith, nat_tests, unless_award)) (λ k. grind (arith, nat_tests, unless_place {Q = Q} k)) stage x

@@ -33,19 +33,14 @@ module _ {Q R : Type 0} (m : Measure Q R) where
       pub sum_changed : (i k : ℕ) → place ≡ k + i → (xs : List E) (x y : E) → slice_get xs i ≡ Some x → g place y ≡ f place x → sum_from m g k (set xs i y) ≡ sum_from m f k xs
       unfolding sum_from
       sum_changed i k p [] x y there here = absurd (none-some x there)
-      sum_changed zero k p (z ∷ zs) x y there here =
-          let at : place ≡ k = omega arith in
-          let same : z ≡ x = cc in
-          cc (sum_alike (suc k) zs (λ j w h. others j w (λ q. omega arith)))
-      sum_changed (suc i) k p (z ∷ zs) x y there here =
-          cc (others k z (λ q. omega arith), sum_changed i (suc k) (omega arith) zs x y there here)
+      sum_changed zero k p (z ∷ zs) x y there here = grind (arith, sum_alike (suc k) zs (λ j w h. others j w (λ q. omega arith)))
+      sum_changed (suc i) k p (z ∷ zs) x y there here = grind (arith, others k z, sum_changed i (suc k) (omega arith) zs x y there here)
 
       -- one element more, which counts nothing
       pub sum_added : (k : ℕ) (xs : List E) → place ≡ k + length xs → (y : E) → g place y ≡ m.none → sum_from m g k (xs ++ (y ∷ [])) ≡ sum_from m f k xs
       unfolding sum_from
-      sum_added k [] p y here = let at : place ≡ k = omega arith in cc (m.neutral m.none)
-      sum_added k (x ∷ xs) p y here =
-          cc (others k x (λ q. omega arith), sum_added (suc k) xs (omega arith) y here)
+      sum_added k [] p y here = grind (arith, m.neutral m.none)
+      sum_added k (x ∷ xs) p y here = grind (arith, others k x, sum_added (suc k) xs (omega arith) y here)
 
   -- sums over the providers below n
   pub below_alike : (f g : ℕ → m.Amount) (n : ℕ) → ((k : ℕ) → k < n → f k ≡ g k) → sum_below m f n ≡ sum_below m g n
