@@ -21,32 +21,30 @@ module _ {Q R : Type 0} (m : Measure Q R) where
   both : {h n l s s' v v' ss ss' vs vs' : m.Amount} → m.plus (m.plus n s') v ≡ m.plus (m.plus h s) v' → m.plus (m.plus l ss') vs ≡ m.plus (m.plus n ss) vs' → m.plus (m.plus l (m.plus s' ss')) (m.plus v vs) ≡ m.plus (m.plus h (m.plus s ss)) (m.plus v' vs')
   both one rest = grind (arith, past, swap4, m.groups)
 
-  module _ (places : ℕ) (admission : ℕ → ℕ → Q → Admission) (p t : ℕ) where
-    -- one request: what its move takes from the giver and brings the taker is what the last word says
-    step :
-        (gate : Gate) (held : Grid Q) (words : Words Q) (k : ℕ) (r : Request R) → Founded m (words k) (Some r) →
-        m.plus (m.plus (amounts m (passed_on m places admission held r) p t) (counted m (from_giver m p t) words k (settled m places admission gate held r))) (counted m (to_taker m p t) words k r)
-        ≡ m.plus (m.plus (amounts m held p t) (counted m (from_giver m p t) words k r)) (counted m (to_taker m p t) words k (settled m places admission gate held r))
-    unfolding moved
-    step gate held words k r f = grind (arith, move_passes m held places admission, neutral_right m, m.commutes)
-
-    gate_sums :
-        (gate : Gate) (words : Words Q) (k : ℕ) (held : Grid Q) (rs : List (Request R)) → ((j i : ℕ) → j ≡ k + i → Founded m (words j) (slice_get rs i)) →
-        m.plus (m.plus (amounts m (after_moves m places admission held rs) p t) (sum_from m (counted m (from_giver m p t) words) k (gated m places admission gate held rs))) (sum_from m (counted m (to_taker m p t) words) k rs)
-        ≡ m.plus (m.plus (amounts m held p t) (sum_from m (counted m (from_giver m p t) words) k rs)) (sum_from m (counted m (to_taker m p t) words) k (gated m places admission gate held rs))
-    unfolding sum_from after_moves gated
-    gate_sums gate words k held [] founded = refl
-    gate_sums gate words k held (r ∷ rs) founded =
-        both (step gate held words k r (founded k 0 (omega arith)))
-        (gate_sums gate words (suc k) (passed_on m places admission held r) rs (λ j i e. founded j (suc i) (omega arith)))
-
   module _ (places : ℕ) (admission : ℕ → ℕ → Q → Admission) (gate : Gate) where
+    module _ (p t : ℕ) (words : Words Q) where
+      -- one request: what its move takes from the giver and brings the taker is what the last word says
+      step :
+          (held : Grid Q) (k : ℕ) (r : Request R) → Founded m (words k) (Some r) →
+          m.plus (m.plus (amounts m (passed_on m places admission held r) p t) (counted m (from_giver m p t) words k (settled m places admission gate held r))) (counted m (to_taker m p t) words k r)
+          ≡ m.plus (m.plus (amounts m held p t) (counted m (from_giver m p t) words k r)) (counted m (to_taker m p t) words k (settled m places admission gate held r))
+      unfolding moved
+      step held k r f = grind (arith, move_passes m held places admission, neutral_right m, m.commutes)
+
+      gate_sums :
+          (k : ℕ) (held : Grid Q) (rs : List (Request R)) → ((j i : ℕ) → j ≡ k + i → Founded m (words j) (slice_get rs i)) →
+          m.plus (m.plus (amounts m (after_moves m places admission held rs) p t) (sum_from m (counted m (from_giver m p t) words) k (gated m places admission gate held rs))) (sum_from m (counted m (to_taker m p t) words) k rs)
+          ≡ m.plus (m.plus (amounts m held p t) (sum_from m (counted m (from_giver m p t) words) k rs)) (sum_from m (counted m (to_taker m p t) words) k (gated m places admission gate held rs))
+      unfolding sum_from after_moves gated
+      gate_sums k held [] founded = refl
+      gate_sums k held (r ∷ rs) founded = both (step held k r (founded k 0 (omega arith))) (gate_sums (suc k) (passed_on m places admission held r) rs (λ j i e. founded j (suc i) (omega arith)))
+
     -- the volumes after a gate
     pub gate_volume :
         (awards : ℕ → ℕ → m.Amount) (words : Words Q) (held : Grid Q) (rs : List (Request R)) → AllFounded m words rs →
         Volume m awards words (amounts m held) rs → Volume m awards words (amounts m (after_moves m places admission held rs)) (gated m places admission gate held rs)
     gate_volume awards words held rs founded volume p t hp ht =
-        let sums = gate_sums places admission p t gate words 0 held rs (λ j i e. grind (arith, founded i)) in
+        let sums = gate_sums p t words 0 held rs (λ j i e. grind (arith, founded i)) in
         cancels_right m _ _ (passed m (to_taker m p t) words rs) (grind (arith, volume p t hp ht, past m, m.groups, m.commutes))
 
     -- every request is still as it was announced last

@@ -13,7 +13,7 @@ use Rattle.requests.specs.declared.request.Request.{Request}
 use Rattle.requests.specs.Announcing.{announcement_place}
 use Rattle.span_moves.proofs.Shares.{raise_adds}
 use Rattle.awards.specs.declared.awarded.Award.{Award}
-use Rattle.awards.specs.Sheets.{SheetView, blank_view}
+use Rattle.awards.specs.Sheets.{SheetView}
 use Rattle.awards.specs.Awards.{award_refusal, award_after, award_sheet}
 use Rattle.awards.proofs.Quarters.{last_end}
 use Rattle.gates.specs.declared.gate.Gate.{Gate}
@@ -22,7 +22,8 @@ use Rattle.gates.specs.Gates.{after_moves, gated}
 use Rattle.day.specs.declared.stages.Day.{Day}
 use Rattle.day.specs.declared.announcing.Announcement.{Announcement}
 use Rattle.day.specs.Announcing.{at_minute, announced_list, announced_day}
-use Rattle.day.specs.Opening.{day_length, opened_day}
+use Rattle.day.specs.Opening.{day_length}
+use Rattle.day.specs.Gating.{gate_refusal}
 use Rattle.day_calls.specs.declared.calls.DayCall.{DayCall}
 use Rattle.day_calls.specs.declared.calls.DayCall.TheVariants.{Open, Award as AwardCall, Announce, Gate as GateCall}
 use Rattle.day_calls.specs.declared.desk.Stage.{Stage}
@@ -55,57 +56,55 @@ module _ {Q R : Type 0} (m : Measure Q R) (tenths : Q → ℕ → ℕ) (directio
   rests call o answers e a w stage =
       idle m tenths directions (record { call = call; answer = answer }) h (awarded_by answer (unless o answers) false e (unless_award o answers a)) (λ k. placed_by k answer (unless o answers) false e (unless_place k o answers (w k))) stage grid s.requests s.sheet
 
-  -- the opening
-  open_by :
-      (number quarters : ℕ) (o : Option Refusal) → open_refused m tenths directions s number quarters ≡ o → Before Unopened → said answer ≡ unless o (numbered (0 ∷ (1 ∷ []))) →
-      After (Open number quarters) (unless_refused o (same_stage First (opened_day number quarters)) Unopened) grid s.requests (unless_refused o blank_view s.sheet)
-  unfolding amounts sum_from
-  open_by number quarters o e x says =
-      let y = rests (Open number quarters) o (numbered (0 ∷ (1 ∷ []))) says refl (λ k. refl) Unopened x in
+  -- the day in a stage, and what a call there comes to
+  abbrev at : Stage → DayState Q R
+  at stage = record s { stage = stage }
+
+  abbrev Keeps : DayCall Q → Stage → Type 0
+  Keeps call stage =
+      Before stage → said answer ≡ answered m tenths directions (at stage) call →
+      After call (stage_after m tenths directions (at stage) call) (held_after m tenths directions (at stage) call) (requests_after m tenths directions (at stage) call) (sheet_after m tenths directions (at stage) call)
+
+  -- an opening: no holding is taken, and there is no request
+  open_keeps : (number quarters : ℕ) → Keeps (Open number quarters) Unopened
+  unfolding answered stage_after held_after requests_after sheet_after amounts sum_from
+  open_keeps number quarters x e =
+      let y = rests (Open number quarters) (open_refused m tenths directions s number quarters) (numbered (0 ∷ (1 ∷ []))) e refl (λ k. refl) Unopened x in
       let put = λ (p t : ℕ) (hp : p < 32) (ht : t < 100). taken_put m s.held p t hp ht m.nothing in
       let nothing_earned = λ (p : ℕ). (y.quiet quarters p 0).1 in
       grind (arith, nat_tests, nil_from_length, nothing_zero m, m.alike_same, m.nothing_none)
 
-  -- an award
-  module _ (a : Award Q) (prices : Bor (List ℕ)) (day : Day) where
-    abbrev award : DayCall Q
-    award = AwardCall a prices
+  -- an award adds its quantity to the holdings of its block
+  award_adds :
+      (a : Award Q) (prices : Bor (List ℕ)) (day : Day) → day_length day.quarters ≡ true → award_refused m tenths directions s day a prices.now ≡ None → (p t : ℕ) →
+      held_after m tenths directions (at (same_stage First day)) (AwardCall a prices) p t ≡ m.plus (award_of m tenths directions day.quarters p t (AwardCall a prices)) (grid p t)
+  unfolding held_after award_refusal award_after
+  award_adds a prices day l e p t = grind (arith, nat_tests, front_clear, front_passes, raise_adds m s.held s.places s.admission, last_end)
 
-    abbrev held_by : Grid m.Amount
-    held_by = award_after m s.held s.places s.admission directions day.quarters s.sheet.awards a.provider a.block a.quantity prices.now
-
-    -- it adds its quantity to the holdings of its block
-    adds : day_length day.quarters ≡ true → award_refused m tenths directions s day a prices.now ≡ None → (p t : ℕ) → held_by p t ≡ m.plus (award_of m tenths directions day.quarters p t award) (grid p t)
-    unfolding award_refusal award_after
-    adds l e p t = grind (arith, nat_tests, front_clear, front_passes, raise_adds m s.held s.places s.admission, last_end)
-
-    award_by :
-        (o : Option Refusal) → award_refused m tenths directions s day a prices.now ≡ o → Before (same_stage First day) → said answer ≡ unless o (numbered (0 ∷ (2 ∷ []))) →
-        After award (same_stage First day) held_by s.requests (award_sheet m s.held s.places s.admission tenths directions day.quarters a.provider a.block a.quantity prices.now s.sheet)
-    unfolding sum_of earned award_after award_sheet
-    award_by o e x says =
-        let words = no_word m tenths directions (record { call = award; answer = answer }) h (λ k. grind (arith, nat_tests)) in
-        let now = adds x.length in
-        rw words (grind (arith, nat_tests, m.groups, m.neutral))
+  award_by :
+      (a : Award Q) (prices : Bor (List ℕ)) (day : Day) (o : Option Refusal) → award_refused m tenths directions s day a prices.now ≡ o → Before (same_stage First day) → said answer ≡ unless o (numbered (0 ∷ (2 ∷ []))) →
+      After (AwardCall a prices) (same_stage First day) (held_after m tenths directions (at (same_stage First day)) (AwardCall a prices)) s.requests (sheet_after m tenths directions (at (same_stage First day)) (AwardCall a prices))
+  unfolding held_after sheet_after sum_of earned award_after award_sheet
+  award_by a prices day o e x says =
+      let words = no_word m tenths directions (record { call = AwardCall a prices; answer = answer }) h (λ k. grind (arith, nat_tests)) in
+      let now = award_adds a prices day x.length in
+      rw words (grind (arith, nat_tests, m.groups, m.neutral))
 
   -- an announcement
-  module _ (a : Announcement Q) (gate : Gate) (day : Day) where
-    abbrev place : ℕ
-    place = announcement_place (joining_before gate) s.requests a.passage
-
-    announce_by :
-        (o : Option Refusal) → announce_refused m tenths directions s gate day a ≡ o → Before (same_stage gate day) → said answer ≡ unless o (numbered (0 ∷ (3 ∷ (place ∷ [])))) →
-        After (Announce a) (same_stage gate (announced_day day a o)) grid (announced_list m day (joining_before gate) a s.requests s.room) s.sheet
-    unfolding last_word
-    announce_by None e x says =
-        let none = no_award m tenths directions (record { call = Announce a; answer = answer }) h (grind arith) in
-        let words = words_of m tenths directions h in
-        let new = words_of m tenths directions (more (Announce a)) in
-        let then = goes m (joining_before gate) a s.requests s.room words new day e (λ j. grind (arith, nat_tests)) in
-        let out = λ (y : AllFounded m words s.requests) (p t : ℕ). (then y).1 (from_giver m p t) in
-        let into = λ (y : AllFounded m words s.requests) (p t : ℕ). (then y).1 (to_taker m p t) in
-        rw (none.0, none.1) (grind (arith, common_steps))
-    announce_by (Some r) e x says = rw (stays m (joining_before gate) a s.requests s.room day r e) (rests (Announce a) (Some r) (numbered (0 ∷ (1 ∷ []))) says refl (λ k. refl) (same_stage gate day) x)
+  announce_by :
+      (a : Announcement Q) (gate : Gate) (day : Day) (o : Option Refusal) → announce_refused m tenths directions s gate day a ≡ o → Before (same_stage gate day) →
+      said answer ≡ unless o (numbered (0 ∷ (3 ∷ (announcement_place (joining_before gate) s.requests a.passage ∷ [])))) →
+      After (Announce a) (same_stage gate (announced_day day a o)) grid (announced_list m day (joining_before gate) a s.requests s.room) s.sheet
+  unfolding last_word
+  announce_by a gate day None e x says =
+      let none = no_award m tenths directions (record { call = Announce a; answer = answer }) h (grind arith) in
+      let words = words_of m tenths directions h in
+      let then = goes m (joining_before gate) a s.requests s.room words (words_of m tenths directions (more (Announce a))) day e (λ j. grind (arith, nat_tests)) in
+      let out = λ (y : AllFounded m words s.requests) (p t : ℕ). (then y).1 (from_giver m p t) in
+      let into = λ (y : AllFounded m words s.requests) (p t : ℕ). (then y).1 (to_taker m p t) in
+      rw (none.0, none.1) (grind (arith, common_steps))
+  announce_by a gate day (Some r) e x says =
+      rw (stays m (joining_before gate) a s.requests s.room day r e) (rests (Announce a) (Some r) (numbered (0 ∷ (1 ∷ []))) says refl (λ k. refl) (same_stage gate day) x)
 
   -- a gate
   gate_by :
@@ -118,19 +117,13 @@ module _ {Q R : Type 0} (m : Measure Q R) (tenths : Q → ℕ → ℕ) (directio
       let founded = gate_founded m s.places s.admission gate (words_of m tenths directions hh) s.held s.requests in
       grind (arith, common_steps)
 
-  -- the day in a stage
-  abbrev at : Stage → DayState Q R
-  at stage = record s { stage = stage }
-
   -- every call, in every stage
-  pub keeps :
-      (call : DayCall Q) (stage : Stage) → Before stage → said answer ≡ answered m tenths directions (at stage) call →
-      After call (stage_after m tenths directions (at stage) call) (held_after m tenths directions (at stage) call) (requests_after m tenths directions (at stage) call) (sheet_after m tenths directions (at stage) call)
+  pub keeps : (call : DayCall Q) (stage : Stage) → Keeps call stage
   unfolding answered stage_after held_after requests_after sheet_after
-  keeps (Open number quarters) Unopened x e = open_by number quarters _ refl x e
-  keeps (AwardCall a prices) (InAnnouncing w) x e = award_by a prices w.day _ refl x e
-  keeps (Announce a) (InAnnouncing w) x e = announce_by a First w.day _ refl x e
-  keeps (Announce a) (InReconciling w) x e = announce_by a Second w.day _ refl x e
-  keeps (GateCall minute) (InAnnouncing w) x e = gate_by minute First w.day _ x e
-  keeps (GateCall minute) (InReconciling w) x e = gate_by minute Second w.day _ x e
-  keeps call stage x e = rests call None (answered m tenths directions (at stage) call) e (grind (arith, nat_tests, unless_award)) (λ k. grind (arith, nat_tests, unless_place {Q = Q} k)) stage x
+  keeps (Open number quarters) Unopened = open_keeps number quarters
+  keeps (AwardCall a prices) (InAnnouncing w) = award_by a prices w.day _ refl
+  keeps (Announce a) (InAnnouncing w) = announce_by a First w.day _ refl
+  keeps (Announce a) (InReconciling w) = announce_by a Second w.day _ refl
+  keeps (GateCall minute) (InAnnouncing w) = gate_by minute First w.day (gate_refusal First w.day minute)
+  keeps (GateCall minute) (InReconciling w) = gate_by minute Second w.day (gate_refusal Second w.day minute)
+  keeps call stage = λ x e. rests call None (answered m tenths directions (at stage) call) e (grind (arith, nat_tests, unless_award)) (λ k. grind (arith, nat_tests, unless_place {Q = Q} k)) stage x

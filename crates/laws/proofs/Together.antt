@@ -34,11 +34,12 @@ module _ {Q R : Type 0} (m : Measure Q R) where
 
   pub holdings_awards : (awards : ℕ → ℕ → m.Amount) (words : Words Q) (grid : Grid m.Amount) (rs : List (Request R)) → Volume m awards words grid rs → AllFounded m words rs → (t : ℕ) → t < 100 → sum_below m (λ p. grid p t) 32 ≡ sum_below m (λ p. awards p t) 32
   holdings_awards awards words grid rs volume founded t h =
-      let even = all_even words t 0 rs (λ j i e. grind (arith, founded i)) in
+      let same = all_even words t 0 rs (λ j i e. grind (arith, founded i)) in
       let sums = simp below_plus at (below_alike m _ _ 32 (λ p l. volume p t l h)) in
       cancels_right m _ _ (sum_below m (λ p. passed m (to_taker m p t) words rs) 32) (cc)
 
 module _ {Q R : Type 0} (m : Measure Q R) (tenths : Q → ℕ → ℕ) (directions : ℕ) (h : List (Event Q)) where
+  -- once a day is opened, all its holdings are all its awards
   together : (stage : Stage) (grid : Grid m.Amount) (rs : List (Request R)) (sheet : SheetView) → StandsAt m tenths directions h stage grid rs sheet → Opened stage (λ day. (t : ℕ) → t < 100 → sum_below m (λ p. grid p t) 32 ≡ sum_below m (λ p. awards_of m tenths directions h day.quarters p t) 32)
   together Unopened grid rs sheet x = tt
   together stage grid rs sheet x = holdings_awards m _ _ grid rs x.volume x.founded
