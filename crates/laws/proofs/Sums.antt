@@ -2,8 +2,8 @@
 use Rattle.std.proofs.Common.{◌≡◌, ℕ, zero, suc, ◌+◌, ◌<◌, ◌≤◌, Bool, cond, ◌&&◌, eqb, List, [], ◌∷◌, ◌++◌, length, set, Some, sym, refl, ◌∙◌, arith}
 use Rattle.std.specs.List.{slice_get}
 use Rattle.std.proofs.lemmas.Bool.Decides.{nat_tests}
-use Rattle.quantity.specs.Measure.{Measure}
 use Rattle.std.proofs.lemmas.Option.{none-some}
+use Rattle.quantity.specs.Measure.{Measure}
 use Rattle.laws.specs.Sums.{sum_from, sum_below}
 
 module _ {Q R : Type 0} (m : Measure Q R) where

@@ -1,5 +1,5 @@
 -- The theorem: a call that is performed as defined keeps the law of every bureau of which its day is part.
-use Rattle.std.proofs.Common.{eqb, ◌≡◌, ℕ, List, [], ◌∷◌, sym, refl, arith}
+use Rattle.std.proofs.Common.{◌≡◌, ℕ, eqb, List, [], ◌∷◌, sym, refl, arith}
 use Rattle.std.proofs.lemmas.Bool.{cond_both, eqb-true, eqb-false}
 use Rattle.std.proofs.lemmas.Bool.Decides.{nat_tests}
 use Rattle.quantity.specs.Measure.{Measure}
