@@ -51,7 +51,7 @@ module _ {Q R : Type 0} (m : Measure Q R) (tenths : Q → ℕ → ℕ) (directio
   abbrev After : DayCall Q → Stage → Grid m.Amount → List (Request R) → SheetView → Type 0
   After call = StandsAt m tenths directions (more call)
 
-  -- a refusal, or an answer that takes nothing
+  -- a refusal, or an answer that takes nothing; of a refused call any such answer will do
   rests : (call : DayCall Q) (o : Option Refusal) (answers : Said Q) → said answer ≡ unless o answers → tells_awarded answers.numbers ≡ false → ((k : ℕ) → tells_placed k answers.numbers ≡ false) → (stage : Stage) → Before stage → After call stage grid s.requests s.sheet
   rests call o answers e a w stage =
       idle m tenths directions (record { call = call; answer = answer }) h (awarded_by answer (unless o answers) false e (unless_award o answers a)) (λ k. placed_by k answer (unless o answers) false e (unless_place k o answers (w k))) stage grid s.requests s.sheet
