@@ -1,10 +1,9 @@
 -- Sums in the set of a quantity: rearranged, element by element, and over providers.
-use Rattle.std.proofs.Common.{◌≡◌, ℕ, zero, suc, ◌+◌, ◌<◌, ◌≤◌, Bool, cond, ◌&&◌, eqb, List, [], ◌∷◌, ◌++◌, length, set, Some, sym, refl, ◌∙◌, ⊎_elim, arith}
-use Rattle.std.proofs.lemmas.Bool.{cases_eq}
+use Rattle.std.proofs.Common.{◌≡◌, ℕ, zero, suc, ◌+◌, ◌<◌, ◌≤◌, Bool, cond, ◌&&◌, eqb, List, [], ◌∷◌, ◌++◌, length, set, Some, sym, refl, ◌∙◌, arith}
 use Rattle.std.specs.List.{slice_get}
 use Rattle.std.proofs.lemmas.Bool.Decides.{nat_tests}
+use Rattle.std.proofs.lemmas.Option.{none-some}
 use Rattle.quantity.specs.Measure.{Measure}
-use Rattle.laws.proofs.Parts.{none_some}
 use Rattle.laws.specs.Sums.{sum_from, sum_below}
 
 module _ {Q R : Type 0} (m : Measure Q R) where
@@ -33,20 +32,15 @@ module _ {Q R : Type 0} (m : Measure Q R) where
       -- one element is another one, which counts alike there
       pub sum_changed : (i k : ℕ) → place ≡ k + i → (xs : List E) (x y : E) → slice_get xs i ≡ Some x → g place y ≡ f place x → sum_from m g k (set xs i y) ≡ sum_from m f k xs
       unfolding sum_from
-      sum_changed i k p [] x y there here = absurd (none_some x there)
-      sum_changed zero k p (z ∷ zs) x y there here =
-          let at : place ≡ k = omega arith in
-          let same : z ≡ x = cc in
-          cc (sum_alike (suc k) zs (λ j w h. others j w (λ q. omega arith)))
-      sum_changed (suc i) k p (z ∷ zs) x y there here =
-          cc (others k z (λ q. omega arith), sum_changed i (suc k) (omega arith) zs x y there here)
+      sum_changed i k p [] x y there here = absurd (none-some x there)
+      sum_changed zero k p (z ∷ zs) x y there here = grind (arith, sum_alike (suc k) zs (λ j w h. others j w (λ q. omega arith)))
+      sum_changed (suc i) k p (z ∷ zs) x y there here = grind (arith, others k z, sum_changed i (suc k) (omega arith) zs x y there here)
 
       -- one element more, which counts nothing
       pub sum_added : (k : ℕ) (xs : List E) → place ≡ k + length xs → (y : E) → g place y ≡ m.none → sum_from m g k (xs ++ (y ∷ [])) ≡ sum_from m f k xs
       unfolding sum_from
-      sum_added k [] p y here = let at : place ≡ k = omega arith in cc (m.neutral m.none)
-      sum_added k (x ∷ xs) p y here =
-          cc (others k x (λ q. omega arith), sum_added (suc k) xs (omega arith) y here)
+      sum_added k [] p y here = grind (arith, m.neutral m.none)
+      sum_added k (x ∷ xs) p y here = grind (arith, others k x, sum_added (suc k) xs (omega arith) y here)
 
   -- sums over the providers below n
   pub below_alike : (f g : ℕ → m.Amount) (n : ℕ) → ((k : ℕ) → k < n → f k ≡ g k) → sum_below m f n ≡ sum_below m g n
@@ -59,26 +53,16 @@ module _ {Q R : Type 0} (m : Measure Q R) where
   below_plus f g zero = sym (m.neutral m.none)
   below_plus f g (suc n) = cc (below_plus f g n, swap4 (f n) (g n) (sum_below m f n) (sum_below m g n))
 
-  pub below_none : (n : ℕ) → sum_below m (λ k. m.none) n ≡ m.none
-  unfolding sum_below
-  below_none zero = refl
-  below_none (suc n) = cc (m.neutral (sum_below m (λ k. m.none) n), below_none n)
-
   -- what one provider p has, and the others do not
   abbrev pub only : ℕ → Bool → m.Amount → ℕ → m.Amount
   only p b a k = cond (eqb k p && b) a m.none
 
-  only_here : (p : ℕ) (b : Bool) (a : m.Amount) (k : ℕ) → k ≡ p → only p b a k ≡ cond b a m.none
-  only_here p b a k e = grind (arith, nat_tests)
-
-  only_else : (p : ℕ) (b : Bool) (a : m.Amount) (k : ℕ) → (k ≡ p → ⊥) → only p b a k ≡ m.none
-  only_else p b a k e = grind (arith, nat_tests)
+  below_else : (p : ℕ) (b : Bool) (a : m.Amount) (n : ℕ) → n ≤ p → sum_below m (only p b a) n ≡ m.none
+  unfolding sum_below
+  below_else p b a zero h = refl
+  below_else p b a (suc n) h = grind (arith, nat_tests, below_else p b a n (omega arith), m.neutral m.none)
 
   pub below_one : (p : ℕ) (b : Bool) (a : m.Amount) (n : ℕ) → p < n → sum_below m (only p b a) n ≡ cond b a m.none
   unfolding sum_below
   below_one p b a zero h = absurd (omega arith)
-  below_one p b a (suc n) h =
-      ⊎_elim
-      (λ (e : n ≡ p). cc (only_here p b a n e, below_alike (only p b a) (λ k. m.none) n (λ k l. only_else p b a k (λ q. omega arith)), below_none n, neutral_right (cond b a m.none)))
-      (λ (e : n ≡ p → ⊥). cc (only_else p b a n e, m.neutral (sum_below m (only p b a) n), below_one p b a n (omega arith)))
-      (cases_eq n p)
+  below_one p b a (suc n) h = grind (arith, nat_tests, below_else p b a n, below_one p b a n, m.neutral, neutral_right)
