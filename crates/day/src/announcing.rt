@@ -17,7 +17,7 @@ use requests::request::Request;
 impl<S: BeforeGate> InStage<S> {
     // What is wrong with an announcement before the list is looked at.
     fn check_outline<Q: Quantity>(&self, said: Announcement<Q>) -> Result<(), Refusal>
-        ensures { result_err result ≡ outline_refusal Q.measure self.now.day S.joining said }
+        ensures { result_err result ≡ outline_refusal Q.measure self.now.day S.JOINING said }
     {
         let passage = said.passage;
         Provider::try_from(passage.giver)?;
@@ -35,7 +35,7 @@ impl<S: BeforeGate> InStage<S> {
         if said.minute < self.day.minute {
             return Err(Refusal::MinuteBeforeLast);
         }
-        if said.minute >= gate_opens(S::gate()) {
+        if said.minute >= gate_opens(S::GATE) {
             return Err(Refusal::TooLate);
         }
         Ok(())
@@ -49,13 +49,13 @@ impl<S: BeforeGate> InStage<S> {
         requests: &mut L,
         said: Announcement<Q>,
     ) -> Result<usize, Refusal>
-        ensures answer { result_err result ≡ announce_refusal Q.measure self.old.day S.joining said (L.contents requests.old) (L.places requests.old) }
-        ensures place { IfOk result (λ p. p ≡ announcement_place S.joining (L.contents requests.old) said.passage) }
-        ensures list { ListBecomes L.contents L.places requests.old requests.new (announced_list Q.measure self.old.day S.joining said (L.contents requests.old) (L.places requests.old)) }
+        ensures answer { result_err result ≡ announce_refusal Q.measure self.old.day S.JOINING said (L.contents requests.old) (L.places requests.old) }
+        ensures place { IfOk result (λ p. p ≡ announcement_place S.JOINING (L.contents requests.old) said.passage) }
+        ensures list { ListBecomes L.contents L.places requests.old requests.new (announced_list Q.measure self.old.day S.JOINING said (L.contents requests.old) (L.places requests.old)) }
         ensures day { self.new.day ≡ announced_day self.old.day said (result_err result) }
     {
         self.check_outline(said)?;
-        let place = put_announcement(requests, S::joining(), said)?;
+        let place = put_announcement(requests, S::JOINING, said)?;
         self.day.minute = said.minute;
         Ok(place)
     }

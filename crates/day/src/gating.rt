@@ -18,14 +18,14 @@ use record_list::interface::Records;
 use refusals::refusal::Refusal;
 use requests::request::Request;
 
-// Whether a gate opens, by the day before and after it.
-fn check_gate(day: Day, later: Day, gate: Gate) -> Result<(), Refusal>
-    ensures { result_err result ≡ gate_refusal gate day later.minute }
+// Whether a gate opens at a minute.
+fn check_gate(day: Day, gate: Gate, minute: i32) -> Result<(), Refusal>
+    ensures { result_err result ≡ gate_refusal gate day minute }
 {
-    if later.minute < day.minute {
+    if minute < day.minute {
         return Err(Refusal::MinuteBeforeLast);
     }
-    if later.minute < gate_opens(gate) {
+    if minute < gate_opens(gate) {
         return Err(Refusal::TooEarly);
     }
     Ok(())
@@ -40,19 +40,18 @@ impl<S: BeforeGate> InStage<S> {
         requests: &mut L,
         minute: i32,
     ) -> Result<InStage<S::Next>, (InStage<S>, Refusal)>
-        ensures answer { refusal_in result ≡ gate_refusal S.gate self.day minute }
+        ensures answer { refusal_in result ≡ gate_refusal S.GATE self.day minute }
         ensures day { MatchResult result (λ next. next.day ≡ at_minute self.day minute) (λ back. back.0.day ≡ self.day) }
-        ensures requests { ListBecomes L.contents L.places requests.old requests.new (unless_refused (gate_refusal S.gate self.day minute) (gated O.Q.measure (O.places obligations.old) (O.admission obligations.old) S.gate (O.holdings obligations.old) (L.contents requests.old)) (L.contents requests.old)) }
-        ensures after { amounts O.Q.measure (O.holdings obligations.new) ≡ unless_refused (gate_refusal S.gate self.day minute) (amounts O.Q.measure (after_moves O.Q.measure (O.places obligations.old) (O.admission obligations.old) (O.holdings obligations.old) (L.contents requests.old))) (amounts O.Q.measure (O.holdings obligations.old)) }
-        ensures judged { OnOk result (Judged O.Q.measure (O.places obligations.old) (O.admission obligations.old) S.gate (O.holdings obligations.old) (L.contents requests.old) (L.contents requests.new)) }
+        ensures requests { ListBecomes L.contents L.places requests.old requests.new (unless_refused (gate_refusal S.GATE self.day minute) (gated O.Q.measure (O.places obligations.old) (O.admission obligations.old) S.GATE (O.holdings obligations.old) (L.contents requests.old)) (L.contents requests.old)) }
+        ensures after { amounts O.Q.measure (O.holdings obligations.new) ≡ unless_refused (gate_refusal S.GATE self.day minute) (amounts O.Q.measure (after_moves O.Q.measure (O.places obligations.old) (O.admission obligations.old) (O.holdings obligations.old) (L.contents requests.old))) (amounts O.Q.measure (O.holdings obligations.old)) }
+        ensures judged { OnOk result (Judged O.Q.measure (O.places obligations.old) (O.admission obligations.old) S.GATE (O.holdings obligations.old) (L.contents requests.old) (L.contents requests.new)) }
         ensures rest { ChangesHoldings O.places O.admission O.layer_number obligations.old obligations.new }
     {
-        let later = Day { minute, ..self.day };
         // No `?`: the stage goes back with the refusal.
-        if let Err(refusal) = check_gate(self.day, later, S::gate()) {
+        if let Err(refusal) = check_gate(self.day, S::GATE, minute) {
             return Err((self, refusal));
         }
-        pass_gate(obligations, requests, S::gate());
-        Ok(InStage::of(later))
+        pass_gate(obligations, requests, S::GATE);
+        Ok(InStage::of(Day { minute, ..self.day }))
     }
 }

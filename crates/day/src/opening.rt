@@ -47,7 +47,7 @@ impl Announcing {
         if !matches!(quarters, 92 | 96 | 100) {
             return Err(Refusal::NoSuchDayLength);
         }
-        if number < 1 || number > 31 {
+        if !(1..=31).contains(&number) {
             return Err(Refusal::NoSuchDayNumber);
         }
         if !nothing_held(obligations, bids, requests) {

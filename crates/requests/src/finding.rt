@@ -1,6 +1,6 @@
 ghost use Rattle.std.specs.Prelude.{◌≡◌};
-ghost use Rattle.std.specs.List.{slice_get, position};
-ghost use Rattle.requests.specs.Requests.{joins, matching, holds_of};
+ghost use Rattle.std.specs.List.{position};
+ghost use Rattle.requests.specs.Requests.{joins, matching};
 
 use crate::request::{Request, Status};
 use record_list::interface::Records;
@@ -26,18 +26,11 @@ pub fn may_join(joining: Joining, status: Status) -> bool
     )
 }
 
-// Whether the request at a place is of this passage and may be joined.
-fn is_match<R: Copy, L: Records<Record = Request<R>>>(
-    list: &L,
-    place: usize,
-    joining: Joining,
-    passage: Passage,
-) -> bool
-    ensures { result ≡ holds_of (matching joining passage) (slice_get (L.contents list.now) place) }
+// Whether a request is of this passage and may be joined.
+fn is_match<R: Copy>(request: &Request<R>, joining: Joining, passage: Passage) -> bool
+    ensures { result ≡ matching joining passage request.now }
 {
-    list.at(place).is_some_and(|request| {
-        request.passage == passage && may_join(joining, request.status)
-    })
+    request.passage == passage && may_join(joining, request.status)
 }
 
 /// The place of the first request of this passage that may be joined.
@@ -48,5 +41,7 @@ pub fn find_request<R: Copy, L: Records<Record = Request<R>>>(
 ) -> Option<usize>
     ensures { result ≡ position (matching joining passage) (L.contents list.now) }
 {
-    (0..list.count()).find(|&place| is_match(list, place, joining, passage))
+    list.entries()
+        .iter()
+        .position(|request| is_match(request, joining, passage))
 }

@@ -9,4 +9,4 @@ unfolding announce_refusal
 returns-in_err-check_outline-clause-answer g c =
     let r = c.in_err-check_outline.field-0.0 in
     let e : result_err c.from_residual.result ≡ Some r = search rules in
-    e ∙ sym (front_stops (outline g.Q.Quantity.measure c.args.self.now.day g.S.BeforeGate.joining c.args.said) _ r (sym c.in_err-check_outline.ensures))
+    e ∙ sym (front_stops (outline g.Q.Quantity.measure c.args.self.now.day g.S.BeforeGate.JOINING c.args.said) _ r (sym c.in_err-check_outline.ensures))
