@@ -90,7 +90,7 @@ impl FromStr for Line {
 }
 
 fn read_change<Q: Written>(words: &mut SplitWhitespace<'_>) -> Result<HoldingChange<Q>, Malformed>
-    ensures { IfOk result (ChangeWords Q.FromStr.from_str_gives (Takes words.old words.new)) }
+    ensures { IfOk result (ChangeWords Q.from_str_gives (Takes words.old words.new)) }
 {
     let provider = read_u8(words)?;
     let quarter = read_u8(words)?;
@@ -118,7 +118,7 @@ fn read_passage(words: &mut SplitWhitespace<'_>) -> Result<Passage, Malformed>
 }
 
 fn read_move<Q: Written>(words: &mut SplitWhitespace<'_>) -> Result<Call<Q>, Malformed>
-    ensures { IfOk result (λ call. (call_word call ≡ codes "move") × CallWords Q.FromStr.from_str_gives (Takes words.old words.new) call) }
+    ensures { IfOk result (λ call. (call_word call ≡ codes "move") × CallWords Q.from_str_gives (Takes words.old words.new) call) }
 {
     let passage = read_passage(words)?;
     let quantity = next_word(words)?.parse()?;
@@ -126,7 +126,7 @@ fn read_move<Q: Written>(words: &mut SplitWhitespace<'_>) -> Result<Call<Q>, Mal
 }
 
 fn read_holding<Q: Written>(words: &mut SplitWhitespace<'_>) -> Result<Call<Q>, Malformed>
-    ensures { IfOk result (λ call. (call_word call ≡ codes "holding") × CallWords Q.FromStr.from_str_gives (Takes words.old words.new) call) }
+    ensures { IfOk result (λ call. (call_word call ≡ codes "holding") × CallWords Q.from_str_gives (Takes words.old words.new) call) }
 {
     let provider = read_u8(words)?;
     let quarter = read_u8(words)?;
@@ -134,7 +134,7 @@ fn read_holding<Q: Written>(words: &mut SplitWhitespace<'_>) -> Result<Call<Q>, 
 }
 
 fn read_words<Q: Written>(words: &mut SplitWhitespace<'_>) -> Result<Call<Q>, Malformed>
-    ensures { IfOk result (λ call. CallWords Q.FromStr.from_str_gives (λ later. Takes words.old words.new (call_word call ∷ later)) call) }
+    ensures { IfOk result (λ call. CallWords Q.from_str_gives (λ later. Takes words.old words.new (call_word call ∷ later)) call) }
 {
     match next_word(words)? {
         "raise" => Ok(Call::Raise(read_change(words)?)),
@@ -150,7 +150,7 @@ fn read_words<Q: Written>(words: &mut SplitWhitespace<'_>) -> Result<Call<Q>, Ma
 impl<Q: Written> FromStr for Call<Q> {
     type Err = Malformed;
 
-    ghost from_str_gives = { λ line r. IfOk r (TellsCall Q.FromStr.from_str_gives line) };
+    ghost from_str_gives = { λ line r. IfOk r (TellsCall Q.from_str_gives line) };
 
     fn from_str(line: &str) -> Result<Call<Q>, Malformed> {
         let mut words = without_comment(line).split_whitespace();
