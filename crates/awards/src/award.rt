@@ -37,7 +37,7 @@ fn check_award<Q: ReserveQuantity>(
     if award.quantity.is_zero() {
         return Err(Refusal::ZeroQuantity);
     }
-    if prices.len() != Q::direction_count() as usize {
+    if prices.len() != usize::from(Q::direction_count()) {
         return Err(Refusal::WrongPriceCount);
     }
     if has_large_price(prices) {

@@ -2,6 +2,7 @@ ghost use Rattle.std.specs.Prelude.{◌≡◌, ℕ, ◌+◌, ◌<◌, ◌≤◌,
 ghost use Rattle.awards.specs.Blocks.{starts, first_of_block, end_of_block, last_of_block, count_of_block, block_of, in_block};
 
 /// A block of a day of so many quarters. A number from 6 on is the whole day.
+// A number and no enum of the six and the whole: the rules number the blocks 0 to 6, and every number has a meaning, so no call asks anything.
 #[derive(Clone, Copy, PartialEq, Eq, Debug)]
 pub struct Block {
     pub quarters: u8,

@@ -16,7 +16,7 @@ pub(crate) fn place(at: Position) -> usize
     ensures value { result ≡ at.provider * 100 + at.quarter }
     ensures bound { result < 3200 }
 {
-    at.provider as usize * 100 + at.quarter as usize
+    usize::from(at.provider) * 100 + usize::from(at.quarter)
 }
 
 /// The holding, zero outside the range and where there are fewer than 3,200 rows.

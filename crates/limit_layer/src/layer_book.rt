@@ -67,6 +67,7 @@ where
 
     fn admits(&self, provider: u8, quarter: u8, quantity: B::Q) -> Result<(), Cause> {
         let below = self.below.admits(provider, quarter, quantity);
+        // Called for what it promises: values of one amount have the same tenths, so they are admitted alike.
         quantity.tenths_add_up(<B::Q as Quantity>::zero());
         if !in_range(provider, quarter) {
             return Ok(());

@@ -9,6 +9,7 @@ use record_list::list::RecordList;
 use std::marker::PhantomData;
 
 /// A sparse book over a list of records in lent memory.
+// The list, of which the book uses every slot: one kind of list serves the requests and these records.
 pub type SparseBook<'a, K> = RecordBook<RecordList<'a, Option<Record<<K as Quantity>::Row>>>, K>;
 
 impl<'a, K: Quantity> SparseBook<'a, K> {

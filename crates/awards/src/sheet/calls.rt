@@ -26,7 +26,7 @@ impl Sheet {
         ensures bound { result ≤ (view self.now).awards * most_earned }
     {
         self.accounts
-            .get(provider as usize)
+            .get(usize::from(provider))
             .map_or(0, |account| account.earned)
     }
 
@@ -34,7 +34,8 @@ impl Sheet {
     pub fn is_exempt(&self, provider: u8, quarter: u8) -> bool
         ensures { result ≡ (view self.now).exempt provider quarter }
     {
-        in_range(provider, quarter) && self.accounts[provider as usize].exempt[quarter as usize]
+        in_range(provider, quarter)
+            && self.accounts[usize::from(provider)].exempt[usize::from(quarter)]
     }
 
     /// How many awards there are.

@@ -51,6 +51,20 @@ returns-in_err-raise_span g c =
       sheet = rw (sym why);
     }
 
+pub enter-requires : goal.enter-requires
+enter-requires g c =
+    let m = g.O.Q.Quantity.measure in
+    let held = g.O.Book.holdings c.args.obligations.now in
+    let places = g.O.Book.places c.args.obligations.now in
+    let admission = g.O.Book.admission c.args.obligations.now in
+    let directions = g.O.Q.ReserveQuantity.directions in
+    let sheet = view c.args.sheet.now in
+    let award = c.args.award in
+    let free = c.in_ok-raise_span.ensures.alike held award.quantity refl refl in
+    let bound = rw c.count.ensures.value at c.award_earnings-earned.ensures.bound in
+    rw c.in_ok-provider.ensures.provider
+    (can_enter m held places admission directions c.args.quarters sheet award.provider award.block c.args.prices.now award.quantity c.in_ok-provider.ensures.refusal c.first.result c.last.result c.first.ensures c.last.ensures.value c.award_earnings-earned.result free bound)
+
 pub returns : goal.returns
 unfolding award_sheet
 returns g c =
@@ -66,11 +80,10 @@ returns g c =
     let why = alike held award.quantity refl refl in
     let earned = c.award_earnings-earned.ensures in
     let count = c.count.ensures.value in
-    let enters = can_enter m held places admission directions c.args.quarters sheet award.provider award.block c.args.prices.now award.quantity c.in_ok-provider.ensures.refusal c.first.result c.last.result c.first.ensures c.last.ensures.value c.award_earnings-earned.result (span.alike held award.quantity refl refl) (rw count at earned.bound) in
     record {
       answer = ap answer_number why;
       alike = alike;
       after = span.after ∙ changed_as_span m held places admission directions c.args.quarters sheet award.provider award.block c.args.prices.now award.quantity c.in_ok-provider.ensures.refusal c.first.result c.last.result c.first.ensures c.last.ensures.value None span.alike;
       rest = span.rest;
-      sheet = rw (sym why) ((rw (c.in_ok-provider.ensures.provider, enters) at c.enter.ensures) ∙ ap (λ amount. entered award.provider amount sheet) (earned.value ∙ ap (award_earns (g.O.Q.ReserveQuantity.tenths_in award.quantity) c.args.prices.now directions) count));
+      sheet = rw (sym why) ((rw c.in_ok-provider.ensures.provider at c.enter.ensures) ∙ ap (λ amount. entered award.provider amount sheet) (earned.value ∙ ap (award_earns (g.O.Q.ReserveQuantity.tenths_in award.quantity) c.args.prices.now directions) count));
     }
