@@ -21,7 +21,7 @@ use refusals::refusal::Refusal;
 use refusals::span::Provider;
 use span_moves::spans::raise_span;
 
-// The refusals of an award that need no book, or its provider.
+// The provider of an award, or the first refusal that needs no book.
 fn check_award<Q: ReserveQuantity>(
     sheet: &Sheet,
     award: Award<Q>,

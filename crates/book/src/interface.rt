@@ -11,7 +11,8 @@ use quantity::interface::Quantity;
 
 /// A book is told by its holdings (of each provider and quarter), the number of its places and what it admits,
 /// and has a layer number. Holdings are compared by the amounts that they stand for.
-// Provider and quarter stay two numbers: a call may have any, and a struct of two unchecked numbers would state no fact. `Position` is the checked pair.
+// Provider and quarter stay two numbers of any value: callers have them so, and a pair would be made for each call to be taken apart at once.
+// `Position` is the pair once it is checked.
 // Three ghost members and not one record of them: these three are what a book is, and a definition that follows calls changes the holdings alone.
 pub trait Book {
     type Q: Quantity;

@@ -4,7 +4,7 @@ ghost use Rattle.bureau.specs.Fresh.{Fresh};
 use desk::day_desk::DayDesk;
 use std::alloc::{AllocError, Global};
 
-/// Where the memory of a new day comes from: books that hold nothing and a list without requests, or want of memory.
+/// Where the memory of a new day comes from: a desk whose books hold nothing and whose list has no request, or want of memory.
 pub trait Supply<D: DayDesk> {
     fn supply(&self, heap: Global) -> Result<D, AllocError>
         ensures { IfOk result (λ d. Fresh D.Q.measure (D.state d)) };

@@ -1,4 +1,4 @@
--- What an announcement answers and changes, by the day, the deadline and the list.
+-- What an announcement answers and changes, by the day, what may be joined and the list.
 use Rattle.std.specs.Prelude.{ℕ, not, ◌&&◌, List, [], ◌∷◌, ◌++◌, ℤ, Option, ◌==◌, int_lt, nat_le, nat_lt}
 use Rattle.quantity.specs.Measure.{Measure, is_zero}
 use Rattle.refusals.specs.declared.refusal.Refusal.{Refusal}

@@ -50,7 +50,7 @@ pub fn free<K: Quantity>(rows: &[K::Row]) -> usize
     if rows.len() < 3200 {
         return 0;
     }
-    // Not by the count of a book's holdings, which asks the book: its question would lead back to itself.
+    // Not by the count of a book's holdings: `RowBook` would pass itself as a book to it, in a call of its own impl, and for that the check finds no proof.
     // A loop: `sum` asks beforehand that the sum fits, which only the promise of each count shows.
     let mut free: usize = 0;
     for provider in 0..32 {

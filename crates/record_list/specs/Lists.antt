@@ -1,4 +1,4 @@
--- What a list in lent memory holds.
+-- What a list in lent memory holds, and what any list becomes.
 use Rattle.std.specs.Prelude.{◌≡◌, ℕ, cond, List, [], ◌∷◌, ◌++◌, length, take, drop, Some, None, Option, nat_lt}
 use Rattle.record_list.specs.declared.list.RecordList.{RecordList}
 

@@ -20,7 +20,7 @@ impl<E: Copy> StoredList<E> {
     }
 }
 
-// Its calls are a `Vec`'s, those of the list over lent slots are a slice's with a count: one body for both would need a third trait.
+// `replace` and `append` are a `Vec`'s here, and a slice's with a count in the list over lent slots: one body for both would need a third trait.
 impl<E: Copy> Records for StoredList<E> {
     type Record = E;
 
