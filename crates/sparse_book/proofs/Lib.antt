@@ -5,5 +5,4 @@ mod Counting
 mod Freeing
 mod Taking
 mod Settling
-pub mod Calls
 mod Blank

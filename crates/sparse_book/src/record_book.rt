@@ -92,7 +92,7 @@ impl<M: Slots<Slot = Option<Record<K::Row>>>, K: Quantity> Book for RecordBook<M
     }
 
     // The interface's promises once more, and two of this book's own: which slot is taken or freed, and that the loan stays.
-    #[tactic(auto, using(book::proofs::Changes::raise_outside, book::proofs::Changes::raise_outside_after, book::proofs::Changes::raise_answer, book::proofs::Changes::raise_after, crate::proofs::Calls::raise_outside_slots, crate::proofs::Calls::raise_slots))]
+    #[tactic(auto, using(book::proofs::Changes::raise_outside, book::proofs::Changes::raise_outside_after, book::proofs::Changes::raise_answer, book::proofs::Changes::raise_after, book::proofs::Changes::held_inside), unfolding(crate::specs::Records::raised_slots))]
     fn raise(&mut self, provider: u8, quarter: u8, quantity: K) -> Result<(), BookRefusal>
         ensures answer { answer_number (result_err result) ≡ answer_number (raise_refusal K.Quantity.measure (records_held K.Quantity.measure (M.slots self.old.slots)) (length (M.slots self.old.slots)) everything provider quarter quantity) }
         ensures after { amounts K.Quantity.measure (records_held K.Quantity.measure (M.slots self.new.slots)) ≡ raised K.Quantity.measure (records_held K.Quantity.measure (M.slots self.old.slots)) (length (M.slots self.old.slots)) everything provider quarter quantity }
@@ -105,7 +105,7 @@ impl<M: Slots<Slot = Option<Record<K::Row>>>, K: Quantity> Book for RecordBook<M
         self.change(at, sum, BookRefusal::SumDoesNotFit)
     }
 
-    #[tactic(auto, using(book::proofs::Changes::lower_outside, book::proofs::Changes::lower_outside_after, book::proofs::Changes::lower_answer, book::proofs::Changes::lower_after, crate::proofs::Calls::lower_outside_slots, crate::proofs::Calls::lower_slots))]
+    #[tactic(auto, using(book::proofs::Changes::lower_outside, book::proofs::Changes::lower_outside_after, book::proofs::Changes::lower_answer, book::proofs::Changes::lower_after, book::proofs::Changes::held_inside), unfolding(crate::specs::Records::lowered_slots))]
     fn lower(&mut self, provider: u8, quarter: u8, quantity: K) -> Result<(), BookRefusal>
         ensures answer { answer_number (result_err result) ≡ answer_number (lower_refusal K.Quantity.measure (records_held K.Quantity.measure (M.slots self.old.slots)) (length (M.slots self.old.slots)) provider quarter quantity) }
         ensures after { amounts K.Quantity.measure (records_held K.Quantity.measure (M.slots self.new.slots)) ≡ lowered K.Quantity.measure (records_held K.Quantity.measure (M.slots self.old.slots)) (length (M.slots self.old.slots)) provider quarter quantity }
