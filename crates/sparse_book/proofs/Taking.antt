@@ -10,6 +10,14 @@ use Rattle.sparse_book.specs.Records.{Slot, vacant, mentions, apart, records_hel
 use Rattle.sparse_book.proofs.Slots.{held_unmentioned}
 use Rattle.sparse_book.proofs.Freeing.{mentions_set, held_amounts}
 
+-- slots that do not mention p in t stay apart where one is written with it
+pub taken_apart : {R : Type 0} (p t : ℕ) (y : R) → in_range p t ≡ true → (ss : List (Slot R)) (i : ℕ) → apart ss ≡ true → mentions p t ss ≡ false → apart (set ss i (Some (record { provider = p; quarter = t; row = y }))) ≡ true
+unfolding apart mentions
+taken_apart p t y h [] i a e = a
+taken_apart p t y h (s ∷ ss) zero a e = grind arith
+taken_apart p t y h (None ∷ ss) (suc i) a e = grind (arith, taken_apart p t y h ss i)
+taken_apart p t y h (Some r ∷ ss) (suc i) a e = grind (arith, nat_tests, taken_apart p t y h ss i, mentions_set r.provider r.quarter ss i (Some (record { provider = p; quarter = t; row = y })))
+
 module _ {Q R : Type 0} (m : Measure Q R) where
   -- a slot that is free, or is freed, is free
   pub still_vacant : (ss : List (Slot R)) (o : Option ℕ) (j : ℕ) → vacant m (get_or ss j None) ≡ true → vacant m (get_or (released o ss) j None) ≡ true
@@ -36,10 +44,3 @@ module _ {Q R : Type 0} (m : Measure Q R) where
 
     pub taken_amounts : (ss : List (Slot R)) (i : ℕ) → i < length ss → apart ss ≡ true → vacant m (get_or ss i None) ≡ true → mentions p t ss ≡ false → held_amounts m (set ss i (Some new)) ≡ put (held_amounts m ss) p t (m.amount (m.told y))
     taken_amounts ss i l a v e = fun_ext (λ x. fun_ext (λ u. taken_at x u ss i l a v e))
-
-    pub taken_apart : in_range p t ≡ true → (ss : List (Slot R)) (i : ℕ) → i < length ss → apart ss ≡ true → mentions p t ss ≡ false → apart (set ss i (Some new)) ≡ true
-    unfolding apart mentions
-    taken_apart h [] i l a e = absurd (omega arith)
-    taken_apart h (s ∷ ss) zero l a e = grind arith
-    taken_apart h (None ∷ ss) (suc i) l a e = grind (arith, taken_apart h ss i)
-    taken_apart h (Some r ∷ ss) (suc i) l a e = grind (arith, nat_tests, taken_apart h ss i, mentions_set r.provider r.quarter ss i (Some new))
