@@ -31,8 +31,7 @@ module _ {R : Type 0} where
   pub gone : (p t : ℕ) (ss : List (Slot R)) → apart ss ≡ true → mentions p t (released (position (keyed p t) ss) ss) ≡ false
   unfolding mentions apart
   gone p t [] e = refl
-  gone p t (None ∷ ss) e = rw position-cons (grind (arith, nat_tests, gone p t ss))
-  gone p t (Some r ∷ ss) e = rw position-cons (grind (arith, nat_tests, gone p t ss))
+  gone p t (s ∷ ss) e = rw position-cons (grind (arith, nat_tests, gone p t ss))
 
   pub length_released : (o : Option ℕ) (ss : List (Slot R)) → length (released o ss) ≡ length ss
   length_released None ss = refl
@@ -42,18 +41,8 @@ module _ {Q R : Type 0} (m : Measure Q R) where
   abbrev pub held_amounts : List (Slot R) → Grid m.Amount
   held_amounts ss = amounts m (records_held m ss)
 
-  pub unheld : (p t : ℕ) (ss : List (Slot R)) → mentions p t ss ≡ false → put (held_amounts ss) p t m.none ≡ held_amounts ss
-  unfolding amounts put
-  unheld p t ss e = fun_ext (λ x. fun_ext (λ u. grind (arith, nat_tests, held_unmentioned m p t ss e, m.nothing_none)))
-
-  -- one holding written among the later slots is written below an earlier record of another
-  pub under : (p t : ℕ) (y : m.Amount) (r : Record R) (ss later : List (Slot R)) → keyed p t (Some r) ≡ false → held_amounts later ≡ put (held_amounts ss) p t y → held_amounts (Some r ∷ later) ≡ put (held_amounts (Some r ∷ ss)) p t y
-  unfolding records_held amounts put
-  under p t y r ss later e h = fun_ext (λ x. fun_ext (λ u. let k = ap (λ g. g x u) h in grind (arith, nat_tests)))
-
   -- freeing the record of p in t makes that holding zero, and leaves the others
   pub freed : (p t : ℕ) (ss : List (Slot R)) → apart ss ≡ true → held_amounts (released (position (keyed p t) ss) ss) ≡ put (held_amounts ss) p t m.none
   unfolding records_held amounts put apart
   freed p t [] e = fun_ext (λ x. fun_ext (λ u. grind (arith, nat_tests, m.nothing_none)))
-  freed p t (None ∷ ss) e = rw position-cons (grind (arith, freed p t ss))
-  freed p t (Some r ∷ ss) e = rw position-cons (fun_ext (λ x. fun_ext (λ u. let k = λ (a : apart ss ≡ true). ap (λ g. g x u) (freed p t ss a) in grind (arith, nat_tests, held_unmentioned m p t ss, m.nothing_none))))
+  freed p t (s ∷ ss) e = rw position-cons (fun_ext (λ x. fun_ext (λ u. let k = λ (a : apart ss ≡ true). ap (λ g. g x u) (freed p t ss a) in grind (arith, nat_tests, held_unmentioned m p t ss, m.nothing_none))))

@@ -39,8 +39,7 @@ module _ {Q R : Type 0} (m : Measure Q R) where
     taken_at x u [] i l a v e = absurd (omega arith)
     taken_at x u (None ∷ ss) zero l a v e = grind (arith, nat_tests)
     taken_at x u (Some r ∷ ss) zero l a v e = grind (arith, nat_tests, m.alike_same (m.told r.row) m.nothing, held_unmentioned m r.provider r.quarter ss)
-    taken_at x u (None ∷ ss) (suc i) l a v e = grind (arith, nat_tests, taken_at x u ss i)
-    taken_at x u (Some r ∷ ss) (suc i) l a v e = grind (arith, nat_tests, taken_at x u ss i)
+    taken_at x u (s ∷ ss) (suc i) l a v e = grind (arith, nat_tests, taken_at x u ss i)
 
     pub taken_amounts : (ss : List (Slot R)) (i : ℕ) → i < length ss → apart ss ≡ true → vacant m (get_or ss i None) ≡ true → mentions p t ss ≡ false → held_amounts m (set ss i (Some new)) ≡ put (held_amounts m ss) p t (m.amount (m.told y))
     taken_amounts ss i l a v e = fun_ext (λ x. fun_ext (λ u. taken_at x u ss i l a v e))
