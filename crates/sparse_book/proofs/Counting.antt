@@ -14,8 +14,7 @@ module _ {Q R : Type 0} (m : Measure Q R) where
   pub free_and_taken : (ss : List (Slot R)) → apart ss ≡ true → vacancies m ss + taken m (records_held m ss) ≡ length ss
   unfolding records_held apart
   free_and_taken [] e = grind (arith, taken_none m (λ _ _. m.nothing) (λ p t. nothing_zero m))
-  free_and_taken (None ∷ ss) e = rw sum_by-cons (grind (arith, free_and_taken ss))
-  free_and_taken (Some r ∷ ss) e = rw sum_by-cons (grind (arith, nat_tests, free_and_taken ss, held_unmentioned m r.provider r.quarter ss, nothing_zero m, taken_put m (records_held m ss) r.provider r.quarter))
+  free_and_taken (s ∷ ss) e = rw sum_by-cons (grind (arith, nat_tests, free_and_taken ss, held_unmentioned m, nothing_zero m, taken_put m))
 
   -- a free slot is found exactly if there is one
   abbrev pub Vacancy : Option ℕ → ℕ → Type 0

@@ -24,8 +24,7 @@ module _ {R : Type 0} where
   apart_released ss None e = e
   apart_released [] (Some i) e = e
   apart_released (s ∷ ss) (Some zero) e = grind arith
-  apart_released (None ∷ ss) (Some (suc i)) e = apart_released ss (Some i) e
-  apart_released (Some r ∷ ss) (Some (suc i)) e = grind (arith, apart_released ss (Some i), mentions_set r.provider r.quarter ss i None refl)
+  apart_released (s ∷ ss) (Some (suc i)) e = grind (arith, apart_released ss (Some i), mentions_set)
 
   -- the record of p in t found and freed, among apart slots: there is no other
   pub gone : (p t : ℕ) (ss : List (Slot R)) → apart ss ≡ true → mentions p t (released (position (keyed p t) ss) ss) ≡ false

@@ -15,8 +15,7 @@ pub taken_apart : {R : Type 0} (p t : ℕ) (y : R) → in_range p t ≡ true →
 unfolding apart mentions
 taken_apart p t y h [] i a e = a
 taken_apart p t y h (s ∷ ss) zero a e = grind arith
-taken_apart p t y h (None ∷ ss) (suc i) a e = grind (arith, taken_apart p t y h ss i)
-taken_apart p t y h (Some r ∷ ss) (suc i) a e = grind (arith, nat_tests, taken_apart p t y h ss i, mentions_set r.provider r.quarter ss i (Some (record { provider = p; quarter = t; row = y })))
+taken_apart p t y h (s ∷ ss) (suc i) a e = grind (arith, nat_tests, taken_apart p t y h ss i, mentions_set)
 
 module _ {Q R : Type 0} (m : Measure Q R) where
   -- a slot that is free, or is freed, is free
@@ -37,8 +36,7 @@ module _ {Q R : Type 0} (m : Measure Q R) where
     taken_at : (x u : ℕ) (ss : List (Slot R)) (i : ℕ) → i < length ss → apart ss ≡ true → vacant m (get_or ss i None) ≡ true → mentions p t ss ≡ false → held_amounts m (set ss i (Some new)) x u ≡ put (held_amounts m ss) p t (m.amount (m.told y)) x u
     unfolding records_held apart mentions amounts put
     taken_at x u [] i l a v e = absurd (omega arith)
-    taken_at x u (None ∷ ss) zero l a v e = grind (arith, nat_tests)
-    taken_at x u (Some r ∷ ss) zero l a v e = grind (arith, nat_tests, m.alike_same (m.told r.row) m.nothing, held_unmentioned m r.provider r.quarter ss)
+    taken_at x u (s ∷ ss) zero l a v e = grind (arith, nat_tests, λ (z : R). m.alike_same (m.told z) m.nothing, held_unmentioned m)
     taken_at x u (s ∷ ss) (suc i) l a v e = grind (arith, nat_tests, taken_at x u ss i)
 
     pub taken_amounts : (ss : List (Slot R)) (i : ℕ) → i < length ss → apart ss ≡ true → vacant m (get_or ss i None) ≡ true → mentions p t ss ≡ false → held_amounts m (set ss i (Some new)) ≡ put (held_amounts m ss) p t (m.amount (m.told y))
