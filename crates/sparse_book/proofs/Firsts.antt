@@ -1,5 +1,5 @@
 -- The first element that passes a test, by the first element of the list.
-use Rattle.std.proofs.Common.{◌≡◌, ℕ, suc, Bool, cond, List, ◌∷◌, Some, None, arith}
+use Rattle.std.proofs.Common.{◌≡◌, suc, Bool, cond, List, ◌∷◌, Some, arith}
 use Rattle.std.proofs.lemmas.Bool.Decides.{nat_tests}
 use Rattle.std.specs.Option.{option_map}
 use Rattle.std.specs.List.{position}

@@ -1,12 +1,11 @@
 -- Slots after the record of a provider and quarter is freed.
-use Rattle.std.proofs.Common.{◌≡◌, ℕ, zero, suc, true, false, List, [], ◌∷◌, length, set, Some, None, Option, refl, ap, ◌∙◌, length-set, arith}
+use Rattle.std.proofs.Common.{◌≡◌, ℕ, zero, suc, true, false, List, [], ◌∷◌, length, set, Some, None, Option, refl, ap, length-set, arith}
 use Rattle.std.proofs.lemmas.Bool.Decides.{nat_tests}
 use mathlib.Core.Path.{fun_ext}
 use Rattle.quantity.specs.Measure.{Measure}
 use Rattle.book.specs.Grid.{Grid, put, amounts}
 use Rattle.std.specs.List.{position}
 use Rattle.sparse_book.proofs.Firsts.{position-cons}
-use Rattle.sparse_book.specs.declared.record.Record.{Record}
 use Rattle.sparse_book.specs.Records.{Slot, keyed, mentions, apart, records_held, released}
 use Rattle.sparse_book.proofs.Slots.{held_unmentioned}
 

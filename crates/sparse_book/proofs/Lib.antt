@@ -1,5 +1,4 @@
 mod Firsts
-mod Grids
 mod Slots
 mod Counting
 mod Freeing

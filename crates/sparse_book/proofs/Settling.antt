@@ -1,18 +1,25 @@
 -- What the slots tell after a holding has become q, and when there is no place for it.
-use Rattle.std.proofs.Common.{◌≡◌, ℕ, ◌<◌, Bool, true, false, cond, List, length, get_or, set, Some, None, Option, arith, length-set}
+use Rattle.std.proofs.Common.{◌≡◌, ℕ, ◌<◌, true, false, cond, List, length, get_or, set, Some, None, Option, arith}
 use Rattle.quantity.specs.Measure.{Measure, is_zero}
-use Rattle.book.specs.Grid.{in_range, put, taken}
+use Rattle.book.specs.Grid.{Grid, put}
 use Rattle.book.specs.Calls.{full}
 use Rattle.book.proofs.Counts.{nothing_zero}
 use Rattle.sparse_book.specs.declared.record.Record.{Record}
-use Rattle.sparse_book.specs.Records.{Slot, keyed, vacant, apart, records_held, vacancies, told_by_place, released}
+use Rattle.sparse_book.specs.Records.{Slot, keyed, vacant, apart, records_held, told_by_place, released}
 use Rattle.std.specs.List.{position}
+use mathlib.Core.Path.{fun_ext}
+use Rattle.std.proofs.lemmas.Bool.Decides.{nat_tests}
+use Rattle.std.proofs.lemmas.List.{get_or-set_same}
 use Rattle.std.proofs.lemmas.List.Quantifiers.{position-Some}
-use Rattle.sparse_book.proofs.Grids.{put_again}
 use Rattle.sparse_book.proofs.Slots.{held_told}
-use Rattle.sparse_book.proofs.Counting.{Vacancy, some_vacant, free_and_taken}
+use Rattle.sparse_book.proofs.Counting.{some_vacant, free_and_taken}
 use Rattle.sparse_book.proofs.Freeing.{apart_released, gone, length_released, held_amounts, freed}
-use Rattle.sparse_book.proofs.Taking.{still_vacant, freed_vacant, taken_amounts, taken_apart}
+use Rattle.sparse_book.proofs.Taking.{still_vacant, taken_amounts}
+
+-- a table written twice for one provider and quarter: the later stays
+put_again : {A : Type 0} (g : Grid A) (p t : ℕ) (y z : A) → put (put g p t y) p t z ≡ put g p t z
+unfolding put
+put_again g p t y z = fun_ext (λ x. fun_ext (λ u. grind (arith, nat_tests)))
 
 module _ {Q R : Type 0} (m : Measure Q R) (ss : List (Slot R)) (p t : ℕ) (q : Q) where
   abbrev told : Option ℕ
@@ -30,7 +37,7 @@ module _ {Q R : Type 0} (m : Measure Q R) (ss : List (Slot R)) (p t : ℕ) (q : 
   place = cond (is_zero m (told_by_place m ss told)) (position (vacant m) ss) told
 
   spot : (i : ℕ) → place ≡ Some i → (i < length without) × (vacant m (get_or without i None) ≡ true)
-  spot i e = grind (arith, position-Some (vacant m) ss i None, position-Some (keyed p t) ss i None, length_released told ss, still_vacant m ss told i, freed_vacant m ss i)
+  spot i e = grind (arith, position-Some (vacant m) ss i None, position-Some (keyed p t) ss i None, length_released told ss, still_vacant m ss told i, get_or-set_same ss i None None)
 
   pub zero_amounts : apart ss ≡ true → is_zero m q ≡ true → held_amounts m without ≡ put (held_amounts m ss) p t (m.amount q)
   zero_amounts a z = grind (arith, freed m p t ss, m.alike_same q m.nothing, m.nothing_none)

@@ -1,7 +1,6 @@
 -- Slots after a free one takes the record of a provider and quarter.
-use Rattle.std.proofs.Common.{◌≡◌, ℕ, zero, suc, ◌<◌, true, false, List, [], ◌∷◌, length, get_or, set, Some, None, Option, refl, ap, arith}
+use Rattle.std.proofs.Common.{◌≡◌, ℕ, zero, suc, ◌<◌, true, false, List, [], ◌∷◌, length, get_or, set, Some, None, Option, arith}
 use Rattle.std.proofs.lemmas.Bool.Decides.{nat_tests}
-use Rattle.std.proofs.lemmas.List.{get_or-set_same}
 use mathlib.Core.Path.{fun_ext}
 use Rattle.quantity.specs.Measure.{Measure}
 use Rattle.book.specs.Grid.{in_range, put, amounts}
@@ -25,9 +24,6 @@ module _ {Q R : Type 0} (m : Measure Q R) where
   still_vacant (s ∷ ss) (Some i) zero v = grind arith
   still_vacant (s ∷ ss) (Some zero) (suc j) v = v
   still_vacant (s ∷ ss) (Some (suc i)) (suc j) v = still_vacant ss (Some i) j v
-
-  pub freed_vacant : (ss : List (Slot R)) (i : ℕ) → i < length ss → vacant m (get_or (set ss i None) i None) ≡ true
-  freed_vacant ss i l = rw get_or-set_same
 
   module _ (p t : ℕ) (y : R) where
     abbrev new : Record R

@@ -1,4 +1,4 @@
-use Rattle.std.proofs.Common.{arith, rules}
+use Rattle.std.proofs.Common.{arith}
 use Rattle.book.proofs.Changes.{held_inside}
 use Rattle.sparse_book.proofs.Slots.{held_told}
 use Rattle.sparse_book.proofs.records.holding.Goals as goal
