@@ -7,6 +7,7 @@ use Rattle.book.proofs.Counts.{nothing_zero}
 use Rattle.sparse_book.specs.declared.record.Record.{Record}
 use Rattle.sparse_book.specs.Records.{Slot, keyed, vacant, apart, records_held, told_by_place, released}
 use Rattle.std.specs.List.{position}
+use Rattle.std.specs.Option.{is_none}
 use mathlib.Core.Path.{fun_ext}
 use Rattle.std.proofs.lemmas.Bool.Decides.{nat_tests}
 use Rattle.std.proofs.lemmas.List.{get_or-set_same}
@@ -45,8 +46,5 @@ module _ {Q R : Type 0} (m : Measure Q R) (ss : List (Slot R)) (p t : ℕ) (q : 
   pub some_amounts : (i : ℕ) → apart ss ≡ true → place ≡ Some i → held_amounts m (set without i (Some new)) ≡ put (held_amounts m ss) p t (m.amount q)
   some_amounts i a e = grind (arith, spot i e, apart_released ss told, gone p t ss, taken_amounts m p t (m.row q) without i, m.row_told q, freed m p t ss, put_again (held_amounts m ss) p t m.none (m.amount q))
 
-  pub full_told : apart ss ≡ true → is_zero m q ≡ false → place ≡ None → full m (records_held m ss) (length ss) p t q ≡ true
-  full_told a z e = grind (arith, free_and_taken m ss, some_vacant m ss, held_told m p t ss, nothing_zero m)
-
-  pub full_not : (i : ℕ) → apart ss ≡ true → is_zero m q ≡ false → place ≡ Some i → full m (records_held m ss) (length ss) p t q ≡ false
-  full_not i a z e = grind (arith, free_and_taken m ss, some_vacant m ss, held_told m p t ss)
+  pub full_is : apart ss ≡ true → is_zero m q ≡ false → full m (records_held m ss) (length ss) p t q ≡ is_none place
+  full_is a z = grind (arith, free_and_taken m ss, some_vacant m ss, held_told m p t ss, nothing_zero m)

@@ -26,7 +26,7 @@ pub struct RecordBook<M: Slots<Slot = Option<Record<K::Row>>>, K: Quantity> {
 
 impl<M: Slots<Slot = Option<Record<K::Row>>>, K: Quantity> RecordBook<M, K> {
     // Makes a holding `new`, refuses as told where that is none, or where there is no free slot.
-    #[tactic(auto, using(crate::proofs::Freeing::apart_released, crate::proofs::Slots::held_told, crate::proofs::Settling::zero_amounts, crate::proofs::Settling::some_amounts, crate::proofs::Freeing::gone, crate::proofs::Taking::taken_apart, crate::proofs::Settling::full_told, crate::proofs::Settling::full_not), unfolding(crate::specs::Records::settled, crate::specs::Records::place_for))]
+    #[tactic(auto, using(crate::proofs::Freeing::apart_released, crate::proofs::Slots::held_told, crate::proofs::Settling::zero_amounts, crate::proofs::Settling::some_amounts, crate::proofs::Freeing::gone, crate::proofs::Taking::taken_apart, crate::proofs::Settling::full_is), unfolding(crate::specs::Records::settled, crate::specs::Records::place_for))]
     fn change(
         &mut self,
         at: Position,
