@@ -93,7 +93,7 @@ impl<M: Slots<Slot = Option<Record<K::Row>>>, K: Quantity> Book for RecordBook<M
     }
 
     // The interface's promises once more, and two of this book's own: which slot is taken or freed, and that the loan stays.
-    #[tactic(auto, using(book::proofs::Changes::raised_is), unfolding(book::specs::Calls::raise_refusal, crate::specs::Records::raised_slots))]
+    #[tactic(auto, using(book::proofs::Changes::raised_is), unfolding(crate::specs::Records::raised_slots, book::specs::Calls::raise_refusal))]
     fn raise(&mut self, provider: u8, quarter: u8, quantity: K) -> Result<(), BookRefusal>
         ensures answer { answer_number (result_err result) ≡ answer_number (raise_refusal K.Quantity.measure (records_held K.Quantity.measure (M.slots self.old.slots)) (length (M.slots self.old.slots)) everything provider quarter quantity) }
         ensures after { amounts K.Quantity.measure (records_held K.Quantity.measure (M.slots self.new.slots)) ≡ raised K.Quantity.measure (records_held K.Quantity.measure (M.slots self.old.slots)) (length (M.slots self.old.slots)) everything provider quarter quantity }
