@@ -24,7 +24,7 @@ pub struct RowBook<M, K> {
 
 impl<M: Slots<Slot = K::Row>, K: Quantity> RowBook<M, K> {
     // Replaces a holding by `new`, refuses as told where that is none, or where there is no free place.
-    #[tactic(auto, using(std::proofs::lemmas::Bool::Decides::nat_tests, crate::proofs::Tables::written_answer, crate::proofs::Tables::written_after, crate::proofs::Tables::few_zero_after, crate::proofs::Tables::few_answer, book::proofs::Grids::range_parts))]
+    #[tactic(auto, using(std::proofs::lemmas::Bool::Decides::nat_tests, crate::proofs::Tables::few_zero, crate::proofs::Tables::few_stays, crate::proofs::Tables::held_written, crate::proofs::Tables::never_full, book::proofs::Grids::range_parts))]
     fn change(
         &mut self,
         at: Position,

@@ -20,7 +20,7 @@ pub(crate) fn place(at: Position) -> usize
 }
 
 /// The holding, zero outside the range and where there are fewer than 3,200 rows.
-#[tactic(auto, using(std::proofs::lemmas::Bool::Decides::nat_tests, crate::proofs::Tables::told_few, crate::proofs::Tables::told_outside, crate::proofs::Tables::told_inside))]
+#[tactic(auto, using(std::proofs::lemmas::Bool::Decides::nat_tests, std::proofs::lemmas::List::get_or_read), unfolding(crate::specs::Rows::rows_held))]
 pub fn holding<K: Quantity>(rows: &[K::Row], provider: u8, quarter: u8) -> K
     ensures { result ≡ held_at K.Quantity.measure (rows_held K.Quantity.measure rows.now) provider quarter }
 {
