@@ -24,7 +24,7 @@ pub struct RowBook<M, K> {
 
 impl<M: Slots<Slot = K::Row>, K: Quantity> RowBook<M, K> {
     // Replaces a holding by `new`, refuses as told where that is none, or where there is no free place.
-    #[tactic(auto, using(std::proofs::lemmas::Bool::Decides::nat_tests, crate::proofs::Tables::few_zero, crate::proofs::Tables::few_stays, crate::proofs::Tables::held_written, crate::proofs::Tables::never_full, book::proofs::Grids::range_parts))]
+    #[tactic(auto, using(std::proofs::lemmas::Bool::Decides::nat_tests, crate::proofs::Tables::few_zero, crate::proofs::Tables::few_stays, crate::proofs::Tables::held_written, crate::proofs::Tables::never_full))]
     fn change(
         &mut self,
         at: Position,
@@ -78,7 +78,7 @@ impl<M: Slots<Slot = K::Row>, K: Quantity> Book for RowBook<M, K> {
     }
 
     // The interface's promises once more, and two of this book's own: rows beyond 3,200 stay, and so does the loan.
-    #[tactic(auto, using(book::proofs::Changes::raise_outside, book::proofs::Changes::raise_outside_after, book::proofs::Changes::raise_answer, book::proofs::Changes::raise_after))]
+    #[tactic(auto, using(book::proofs::Changes::raised_is), unfolding(book::specs::Calls::raise_refusal))]
     fn raise(&mut self, provider: u8, quarter: u8, quantity: K) -> Result<(), BookRefusal>
         ensures answer { answer_number (result_err result) ≡ answer_number (raise_refusal K.Quantity.measure (rows_held K.Quantity.measure (M.slots self.old.rows)) (rows_places (M.slots self.old.rows)) everything provider quarter quantity) }
         ensures after { amounts K.Quantity.measure (rows_held K.Quantity.measure (M.slots self.new.rows)) ≡ raised K.Quantity.measure (rows_held K.Quantity.measure (M.slots self.old.rows)) (rows_places (M.slots self.old.rows)) everything provider quarter quantity }
@@ -91,7 +91,7 @@ impl<M: Slots<Slot = K::Row>, K: Quantity> Book for RowBook<M, K> {
         self.change(at, sum, BookRefusal::SumDoesNotFit)
     }
 
-    #[tactic(auto, using(book::proofs::Changes::lower_outside, book::proofs::Changes::lower_outside_after, book::proofs::Changes::lower_answer, book::proofs::Changes::lower_after))]
+    #[tactic(auto, unfolding(book::specs::Calls::lower_refusal, book::specs::Calls::lowered))]
     fn lower(&mut self, provider: u8, quarter: u8, quantity: K) -> Result<(), BookRefusal>
         ensures answer { answer_number (result_err result) ≡ answer_number (lower_refusal K.Quantity.measure (rows_held K.Quantity.measure (M.slots self.old.rows)) (rows_places (M.slots self.old.rows)) provider quarter quantity) }
         ensures after { amounts K.Quantity.measure (rows_held K.Quantity.measure (M.slots self.new.rows)) ≡ lowered K.Quantity.measure (rows_held K.Quantity.measure (M.slots self.old.rows)) (rows_places (M.slots self.old.rows)) provider quarter quantity }
