@@ -11,6 +11,10 @@ use Rattle.book.proofs.Told.{admission_yes, admission_no}
 use Rattle.limit_layer.specs.declared.table.LimitTable.{LimitTable}
 use Rattle.limit_layer.specs.Limits.{limit_at, within, over, limited}
 
+-- what is nothing adds nothing
+pub plus_nothing : {Q R : Type 0} (m : Measure Q R) (q zero : Q) → zero ≡ m.nothing → m.plus (m.amount q) (m.amount zero) ≡ m.amount q
+plus_nothing m q zero z = grind (arith, m.nothing_none, m.commutes (m.amount q) m.none, m.neutral (m.amount q))
+
 -- tenths that add up are the same for values of one amount
 pub tenths_alike : {Q R : Type 0} (m : Measure Q R) (tenths : Q → ℕ → ℕ) (q zero : Q) → zero ≡ m.nothing → ((s : Q) (d : ℕ) → m.amount s ≡ m.plus (m.amount q) (m.amount zero) → tenths s d ≡ tenths q d + tenths zero d) → (other : Q) → m.amount other ≡ m.amount q → (d : ℕ) → tenths other d ≡ tenths q d
 tenths_alike m tenths q zero z h other e d =
