@@ -32,33 +32,3 @@ welcome_from m held places admission Raising p first last q barred t l h =
     λ a e.
     let same : amounts m (put held p t a) ≡ amounts m held = amounts_put m held p t a ∙ put_same (amounts m held) p t (m.amount a) (sym e) in
     ap (λ x. barred_sum (admission p t) p t (m.joined x q)) (sym (put_here held p t a)) ∙ clear_from (unadmitted m (put held p t a) admission p q) first (count first last) t (sym (barred (put held p t a) q same refl)) l (omega arith)
-
--- a change of a span, by what its shape and its checks answer
-pub span_refusal-shape : (p first last : ℕ) (x : Refusal) → first_some (no_provider p ∷ (no_span first last ∷ [])) ≡ Some x → {Q R : Type 0} (m : Measure Q R) (held : Grid Q) (places : ℕ) (admission : ℕ → ℕ → Q → Admission) (change : Change) (q : Q) → span_refusal m held places admission change p first last q ≡ Some x
-unfolding span_refusal
-span_refusal-shape p first last x e m held places admission change q = front_stops (no_provider p ∷ (no_span first last ∷ [])) _ x e
-
-pub span_refusal-checks : (p first last : ℕ) → first_some (no_provider p ∷ (no_span first last ∷ [])) ≡ None → {Q R : Type 0} (m : Measure Q R) (held : Grid Q) (places : ℕ) (admission : ℕ → ℕ → Q → Admission) (change : Change) (q : Q) → span_refusal m held places admission change p first last q ≡ change_checks m held places admission change p first last q
-unfolding span_refusal
-span_refusal-checks p first last e m held places admission change q = front_passes (no_provider p ∷ (no_span first last ∷ [])) _ e
-
-pub span_after-is : (o : Option Refusal) {Q R : Type 0} (m : Measure Q R) (held : Grid Q) (places : ℕ) (admission : ℕ → ℕ → Q → Admission) (change : Change) (p first last : ℕ) (q : Q) → o ≡ span_refusal m held places admission change p first last q → span_after m held places admission change p first last q ≡ unless_refused o (spanned m held change p q first (last + 1)) (amounts m held)
-unfolding span_after
-span_after-is o m held places admission change p first last q e = rw e refl
-
--- what refuses a move by its shape
-abbrev shape : (giver taker first last : ℕ) → List (Option Refusal)
-shape giver taker first last = no_provider giver ∷ (no_provider taker ∷ (no_span first last ∷ (one_provider giver taker ∷ [])))
-
--- a move of a span, likewise
-pub move_refusal-shape : (giver taker first last : ℕ) (x : Refusal) → first_some (shape giver taker first last) ≡ Some x → {Q R : Type 0} (m : Measure Q R) (held : Grid Q) (places : ℕ) (admission : ℕ → ℕ → Q → Admission) (q : Q) → move_refusal m held places admission giver taker first last q ≡ Some x
-unfolding move_refusal
-move_refusal-shape giver taker first last x e m held places admission q = front_stops (shape giver taker first last) _ x e
-
-pub move_refusal-checks : (giver taker first last : ℕ) → first_some (shape giver taker first last) ≡ None → {Q R : Type 0} (m : Measure Q R) (held : Grid Q) (places : ℕ) (admission : ℕ → ℕ → Q → Admission) (q : Q) → move_refusal m held places admission giver taker first last q ≡ move_checks m held places admission giver taker first last q
-unfolding move_refusal
-move_refusal-checks giver taker first last e m held places admission q = front_passes (shape giver taker first last) _ e
-
-pub move_after-is : (o : Option Refusal) {Q R : Type 0} (m : Measure Q R) (held : Grid Q) (places : ℕ) (admission : ℕ → ℕ → Q → Admission) (giver taker first last : ℕ) (q : Q) → o ≡ move_refusal m held places admission giver taker first last q → move_after m held places admission giver taker first last q ≡ unless_refused o (moved m held giver taker q first (last + 1)) (amounts m held)
-unfolding move_after
-move_after-is o m held places admission giver taker first last q e = rw e refl
