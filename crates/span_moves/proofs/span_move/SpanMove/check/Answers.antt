@@ -7,29 +7,29 @@ use Rattle.span_moves.specs.declared.change.Change.TheVariants.{Lowering, Raisin
 use Rattle.span_moves.specs.Spans.{Alike, crowding, becomes, left_after, count}
 use Rattle.span_moves.specs.Moves.{move_checks}
 use Rattle.span_moves.proofs.Firsts.{all_fit}
-use Rattle.span_moves.proofs.Lefts.{left-le, left-None}
+use Rattle.span_moves.proofs.Lefts.{left_le, left_none}
 use Rattle.span_moves.proofs.Whole.{move_checks-alike, welcome_from}
 use Rattle.span_moves.proofs.span_move.SpanMove.check.Given as given
 use Rattle.span_moves.proofs.span_move.SpanMove.check.Goals as goal
 use Rattle.span_moves.proofs.span_move.SpanMove.check.Goals.{After-count_places, After-count_places-2}
 
 pub returns-in_err-check_fits-clause-alike : goal.returns-in_err-check_fits-clause-alike
-returns-in_err-check_fits-clause-alike g c other r e f = grind (arith, left-None, move_checks-alike g.Q.Quantity.measure (g.B.Book.holdings c.args.book.now) c.args.self.now.quantity)
+returns-in_err-check_fits-clause-alike g c other r e f = grind (arith, left_none, move_checks-alike g.Q.Quantity.measure (g.B.Book.holdings c.args.book.now) c.args.self.now.quantity)
 
 pub returns-in_err-check_fits-2-clause-alike : goal.returns-in_err-check_fits-2-clause-alike
-returns-in_err-check_fits-2-clause-alike g c other r e f = grind (arith, left-None, move_checks-alike g.Q.Quantity.measure (g.B.Book.holdings c.args.book.now) c.args.self.now.quantity)
+returns-in_err-check_fits-2-clause-alike g c other r e f = grind (arith, left_none, move_checks-alike g.Q.Quantity.measure (g.B.Book.holdings c.args.book.now) c.args.self.now.quantity)
 
 pub returns-in_err-check_admitted-clause-alike : goal.returns-in_err-check_admitted-clause-alike
-returns-in_err-check_admitted-clause-alike g c other r e f = rw (move_checks-alike g.Q.Quantity.measure (g.B.Book.holdings c.args.book.now) c.args.self.now.quantity) (grind (arith, left-None, rw c.change-raising.ensures at c.in_err-check_admitted.ensures other r e f))
+returns-in_err-check_admitted-clause-alike g c other r e f = rw (move_checks-alike g.Q.Quantity.measure (g.B.Book.holdings c.args.book.now) c.args.self.now.quantity) (grind (arith, left_none, rw c.change-raising.ensures at c.in_err-check_admitted.ensures other r e f))
 
 pub returns-in_err-lowered-clause-alike : goal.returns-in_err-lowered-clause-alike
-returns-in_err-lowered-clause-alike g c other r e f = rw (move_checks-alike g.Q.Quantity.measure (g.B.Book.holdings c.args.book.now) c.args.self.now.quantity) (grind (arith, left-None, rw c.change-raising.ensures at c.in_ok-check_admitted.ensures other r e f))
+returns-in_err-lowered-clause-alike g c other r e f = rw (move_checks-alike g.Q.Quantity.measure (g.B.Book.holdings c.args.book.now) c.args.self.now.quantity) (grind (arith, left_none, rw c.change-raising.ensures at c.in_ok-check_admitted.ensures other r e f))
 
 pub returns-in_err-ok_or-clause-alike : goal.returns-in_err-ok_or-clause-alike
-returns-in_err-ok_or-clause-alike g c other r e f = rw (move_checks-alike g.Q.Quantity.measure (g.B.Book.holdings c.args.book.now) c.args.self.now.quantity) (grind (arith, left-None, rw c.change-raising.ensures at c.in_ok-check_admitted.ensures other r e f))
+returns-in_err-ok_or-clause-alike g c other r e f = rw (move_checks-alike g.Q.Quantity.measure (g.B.Book.holdings c.args.book.now) c.args.self.now.quantity) (grind (arith, left_none, rw c.change-raising.ensures at c.in_ok-check_admitted.ensures other r e f))
 
 pub returns-clause-alike : goal.returns-clause-alike
-returns-clause-alike g c other r e f = rw (move_checks-alike g.Q.Quantity.measure (g.B.Book.holdings c.args.book.now) c.args.self.now.quantity) (grind (arith, left-None, rw c.change-raising.ensures at c.in_ok-check_admitted.ensures other r e f))
+returns-clause-alike g c other r e f = rw (move_checks-alike g.Q.Quantity.measure (g.B.Book.holdings c.args.book.now) c.args.self.now.quantity) (grind (arith, left_none, rw c.change-raising.ensures at c.in_ok-check_admitted.ensures other r e f))
 
 pub returns-clause-ready : goal.returns-clause-ready
 returns-clause-ready g c =
@@ -52,4 +52,4 @@ returns-clause-ready g c =
     }
 
 pub count_places-requires-2 : goal.count_places-requires-2
-count_places-requires-2 g c = grind (arith, left-le)
+count_places-requires-2 g c = grind (arith, left_le)
