@@ -1,20 +1,14 @@
 -- Values of one amount are treated alike.
-use Rattle.std.proofs.Common.{◌≡◌, ℕ, ◌-◌, true, is_some, Some, None, Option, unwrap_or, sym, refl, ap, ◌∙◌, subst, arith}
+use Rattle.std.proofs.Common.{◌≡◌, ℕ, Some, None, Option, refl, ap, arith}
 use mathlib.Core.Path.{fun_ext}
-use Rattle.std.proofs.lemmas.Bool.{true≢false}
-use Rattle.quantity.specs.Measure.{Measure, Sum, Rest, is_zero}
+use Rattle.quantity.specs.Measure.{Measure, is_zero}
 use Rattle.book.specs.Grid.{Grid, amounts, total, filled, taken}
 use Rattle.book.specs.Admissions.{Admission}
 use Rattle.book.proofs.Counts.{total_alike, taken_is}
-use Rattle.refusals.specs.declared.refusal.Refusal.{Refusal}
 use Rattle.span_moves.specs.declared.change.Change.{Change}
 use Rattle.span_moves.specs.declared.change.Change.TheVariants.{Lowering, Raising}
-use Rattle.span_moves.specs.Spans.{next, misfit, unless_some, first_of, left, left_after, becomes, unfit, asked, barred_sum}
-use Rattle.span_moves.specs.Moves.{unwelcome, free_places}
-
-pub some_from : {A : Type 0} (o : Option A) → is_some o ≡ true → (x : A) × (o ≡ Some x)
-some_from None e = absurd (true≢false (sym e))
-some_from (Some x) e = (x, refl)
+use Rattle.span_moves.specs.Spans.{next, first_of, left_after, becomes, unfit}
+use Rattle.span_moves.specs.Moves.{free_places}
 
 module _ {Q R : Type 0} (m : Measure Q R) where
   pub zero_alike : (a b : Q) → m.amount a ≡ m.amount b → is_zero m a ≡ is_zero m b
@@ -35,18 +29,6 @@ module _ {Q R : Type 0} (m : Measure Q R) where
   pub next_same : (a b q r : Q) → m.amount a ≡ m.amount b → m.amount q ≡ m.amount r → (change : Change) → Same (next m change a q) (next m change b r)
   next_same a b q r e f Lowering = grind (arith, m.remains a q, m.remains b r, m.fitting, m.cancels (m.amount q))
   next_same a b q r e f Raising = grind (arith, m.joins a q, m.joins b r, m.fitting)
-
-  pub next_alike : (change : Change) (a b q r d : Q) → m.amount a ≡ m.amount b → m.amount q ≡ m.amount r → next m change b r ≡ Some d → (c : Q) × (next m change a q ≡ Some c) × (m.amount c ≡ m.amount d)
-  next_alike change a b q r d e f h = grind (arith, next_same a b q r e f change)
-
-  -- what the next holding is to the present one
-  abbrev pub Next : Change → Q → Q → Q → Type 0
-  Next Lowering a q d = m.plus (m.amount q) (m.amount d) ≡ m.amount a
-  Next Raising a q d = m.amount d ≡ m.plus (m.amount a) (m.amount q)
-
-  pub next_is : (change : Change) (a q d : Q) → next m change a q ≡ Some d → Next change a q d
-  next_is Lowering a q d e = subst (Rest m.plus m.Fits m.amount a q) e (m.remains a q)
-  next_is Raising a q d e = subst (Sum m.plus m.Fits m.amount a q) e (m.joins a q)
 
 -- two rows of holdings, and two quantities, of the same amounts
 module _ {Q R : Type 0} (m : Measure Q R) (held other : Grid Q) (p : ℕ) (q r : Q) (row : (t : ℕ) → m.amount (other p t) ≡ m.amount (held p t)) (f : m.amount r ≡ m.amount q) where

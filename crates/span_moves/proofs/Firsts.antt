@@ -5,7 +5,7 @@ use Rattle.quantity.specs.Measure.{Measure}
 use Rattle.book.specs.Grid.{Grid}
 use Rattle.refusals.specs.declared.refusal.Refusal.{Refusal}
 use Rattle.span_moves.specs.declared.change.Change.{Change}
-use Rattle.span_moves.specs.Spans.{next, misfit, first_of, unless_some, unfit, count}
+use Rattle.span_moves.specs.Spans.{next, first_of, unfit, count}
 
 -- nothing is refused in the quarters from lo on and before hi
 abbrev pub Clear : (ℕ → Option Refusal) → ℕ → ℕ → Type 0

@@ -1,5 +1,5 @@
 -- One quarter of a span that is ready to be changed.
-use Rattle.std.proofs.Common.{◌≡◌, ℕ, zero, suc, ◌+◌, ◌-◌, ◌<◌, ◌≤◌, Bool, true, false, cond, not, ◌&&◌, leb, is_some, Some, None, sym, refl, ap, ◌∙◌, arith}
+use Rattle.std.proofs.Common.{◌≡◌, ℕ, ◌+◌, ◌-◌, ◌<◌, ◌≤◌, Bool, true, false, cond, not, ◌&&◌, leb, is_some, Some, sym, refl, ap, ◌∙◌, arith}
 use Rattle.std.proofs.lemmas.Bool.Decides.{nat_tests}
 use Rattle.quantity.specs.Measure.{Measure, is_zero}
 use Rattle.book.specs.Grid.{Grid, in_range, put, amounts, taken, filled}
@@ -7,13 +7,13 @@ use Rattle.book.specs.Calls.{full, lowered, lower_refusal, raise_refusal}
 use Rattle.book.specs.Admissions.{Admission}
 use Rattle.book.proofs.Grids.{range_from}
 use Rattle.book.proofs.Counts.{taken_put}
-use Rattle.book.proofs.Changes.{raise_inside, lower_inside, raised_is, lowered_is, amounts_put}
+use Rattle.book.proofs.Changes.{raised_is, amounts_put}
 use Rattle.span_moves.specs.declared.change.Change.{Change}
 use Rattle.span_moves.specs.declared.change.Change.TheVariants.{Lowering, Raising}
-use Rattle.span_moves.specs.Spans.{next, step_left, barred_at, becomes, spanned, left_after}
+use Rattle.span_moves.specs.Spans.{next, step_left, becomes, spanned, left_after}
 use Rattle.span_moves.specs.Ready.{changed_one, Welcome, Ready}
 use Rattle.span_moves.proofs.Lefts.{left_next, left_before}
-use Rattle.span_moves.proofs.Alike.{some_from, zero_alike, next_alike, taken_alike}
+use Rattle.span_moves.proofs.Alike.{zero_alike, next_same, taken_alike}
 use Rattle.span_moves.proofs.Spanned.{spanned-later, put-spanned}
 
 -- where a step finds a place, the count follows the holdings that are not zero
@@ -43,10 +43,7 @@ module _ {Q R : Type 0} (m : Measure Q R) (held0 : Grid Q) (places : ℕ) (admis
   same = ap (λ g. g p t) so.so_far ∙ spanned-later m held0 change p q lo t t p (omega arith)
 
   new_next : (d c : Q) × (next m change (held0 p t) q ≡ Some d) × (next m change (held p t) q ≡ Some c) × (m.amount c ≡ m.amount d)
-  new_next =
-      let d = some_from (next m change (held0 p t) q) (ready.fits t l h) in
-      let w = next_alike m change (held p t) (held0 p t) q q d.0 same refl d.1 in
-      (d.0, w.0, d.1, w.1, w.2)
+  new_next = grind (arith, ready.fits t, next_same m (held p t) (held0 p t) q q same refl change)
 
   abbrev c : Q
   c = new_next.1

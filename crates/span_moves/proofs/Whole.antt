@@ -1,19 +1,16 @@
 -- What refuses a whole change or move, of all holdings and quantities of the same amounts.
-use Rattle.std.proofs.Common.{◌≡◌, ℕ, ◌+◌, ◌≤◌, List, [], ◌∷◌, Some, None, Option, sym, refl, ap, ◌∙◌, arith}
+use Rattle.std.proofs.Common.{◌≡◌, ℕ, ◌≤◌, [], ◌∷◌, None, sym, refl, ap, ◌∙◌, arith}
 use Rattle.quantity.specs.Measure.{Measure}
 use Rattle.book.specs.Grid.{Grid, put, amounts}
 use Rattle.book.specs.Admissions.{Admission}
 use Rattle.book.proofs.Grids.{put_here, put_same}
 use Rattle.book.proofs.Changes.{amounts_put}
-use Rattle.refusals.specs.declared.refusal.Refusal.{Refusal}
-use Rattle.refusals.specs.Checks.{no_provider, no_span, one_provider}
-use Rattle.refusals.specs.First.{first_some, unless_refused}
-use Rattle.refusals.proofs.Firsts.{front_stops, front_passes}
+use Rattle.refusals.specs.First.{first_some}
 use Rattle.span_moves.specs.declared.change.Change.{Change}
 use Rattle.span_moves.specs.declared.change.Change.TheVariants.{Lowering, Raising}
-use Rattle.span_moves.specs.Spans.{Alike, first_of, crowding, count, barred_sum, unfit, unadmitted, spanned, left_after}
+use Rattle.span_moves.specs.Spans.{Alike, first_of, crowding, count, barred_sum, unfit, unadmitted, left_after}
 use Rattle.span_moves.specs.Ready.{Welcome}
-use Rattle.span_moves.specs.Moves.{unwelcome, free_places, change_checks, span_refusal, span_after, move_checks, move_refusal, move_after, moved}
+use Rattle.span_moves.specs.Moves.{unwelcome, free_places, change_checks, move_checks}
 use Rattle.span_moves.proofs.Firsts.{clear_from}
 use Rattle.span_moves.proofs.Alike.{free_alike, fits_alike, lefts_alike}
 

@@ -1,10 +1,6 @@
-use Rattle.std.proofs.Common.{◌≡◌, ◌-◌, Some, sym, refl, arith}
-use Rattle.std.proofs.lemmas.Result.{err_from_is_err_and}
-use Rattle.book.specs.Grid.{taken}
-use Rattle.span_moves.specs.Spans.{left_after, count}
+use Rattle.std.proofs.Common.{sym, arith}
 use Rattle.span_moves.proofs.Firsts.{all_fit}
 use Rattle.span_moves.proofs.Whole.{change_checks-alike, welcome_from}
-use Rattle.span_moves.proofs.span_change.SpanChange.check.Given as given
 use Rattle.span_moves.proofs.span_change.SpanChange.check.Goals as goal
 use Rattle.span_moves.proofs.span_change.SpanChange.check.Goals.{After-count_places}
 

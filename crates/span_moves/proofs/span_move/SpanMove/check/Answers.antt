@@ -1,15 +1,8 @@
-use Rattle.std.proofs.Common.{◌≡◌, ◌-◌, [], ◌∷◌, Some, None, sym, refl, arith}
-use Rattle.std.proofs.lemmas.Result.{err_from_is_err_and}
-use Rattle.quantity.specs.Measure.{is_zero}
-use Rattle.book.specs.Grid.{taken}
-use Rattle.refusals.specs.First.{first_some}
+use Rattle.std.proofs.Common.{sym, arith}
 use Rattle.span_moves.specs.declared.change.Change.TheVariants.{Lowering, Raising}
-use Rattle.span_moves.specs.Spans.{Alike, crowding, becomes, left_after, count}
-use Rattle.span_moves.specs.Moves.{move_checks}
 use Rattle.span_moves.proofs.Firsts.{all_fit}
 use Rattle.span_moves.proofs.Lefts.{left_le, left_none}
 use Rattle.span_moves.proofs.Whole.{move_checks-alike, welcome_from}
-use Rattle.span_moves.proofs.span_move.SpanMove.check.Given as given
 use Rattle.span_moves.proofs.span_move.SpanMove.check.Goals as goal
 use Rattle.span_moves.proofs.span_move.SpanMove.check.Goals.{After-count_places, After-count_places-2}
 
