@@ -1,17 +1,14 @@
 -- The gate's list, request by request.
-use Rattle.std.proofs.Common.{◌≡◌, ℕ, zero, suc, ◌+◌, ◌≤◌, List, [], ◌∷◌, length, take, Some, None, Option, sym, refl, ap, ◌∙◌, add-one, arith}
-use Rattle.std.proofs.lemmas.Option.{none-some, same_Some}
+use Rattle.std.proofs.Common.{◌≡◌, ℕ, zero, suc, ◌+◌, ◌≤◌, List, [], ◌∷◌, length, take, Option, refl, add-one, arith}
 use Rattle.quantity.specs.Measure.{Measure}
 use Rattle.book.specs.Grid.{Grid}
 use Rattle.book.specs.Admissions.{Admission}
 use Rattle.refusals.specs.declared.refusal.Refusal.{Refusal}
 use Rattle.requests.specs.declared.request.Status.{Status}
-use Rattle.requests.specs.declared.request.Status.TheVariants.{WaitingForCounterpart, BalanceOk, BalanceError, Confirmed, Rejected, Waiting, Accepted, Declined, Lapsed}
 use Rattle.requests.specs.declared.request.Request.{Request}
-use Rattle.requests.specs.Announcing.{changed_of, changed_at}
+use Rattle.requests.specs.Announcing.{changed_at}
 use Rattle.std.specs.List.{slice_get}
 use Rattle.gates.specs.declared.gate.Gate.{Gate}
-use Rattle.gates.specs.declared.gate.Gate.TheVariants.{First, Second}
 use Rattle.gates.specs.Gates.{judged, cause, settled, passed_on, passed_at, after_moves, gated, Decided, Judged}
 
 module _ {Q R : Type 0} (m : Measure Q R) (places : ℕ) (admission : ℕ → ℕ → Q → Admission) where
@@ -24,6 +21,10 @@ module _ {Q R : Type 0} (m : Measure Q R) (places : ℕ) (admission : ℕ → �
   pub midway_start : (gate : Gate) (held : Grid Q) (xs : List (Request R)) → midway gate held 0 xs ≡ xs
   midway_start gate held [] = refl
   midway_start gate held (r ∷ rs) = refl
+
+  pub moved_start : (held : Grid Q) → after_moves m places admission held [] ≡ held
+  unfolding after_moves
+  moved_start held = refl
 
   pub midway_end : (gate : Gate) (held : Grid Q) (xs : List (Request R)) (i : ℕ) → length xs ≤ i → midway gate held i xs ≡ gated m places admission gate held xs
   unfolding gated
