@@ -1,5 +1,5 @@
 -- Tables over providers and quarters.
-use Rattle.std.proofs.Common.{◌≡◌, ℕ, ◌<◌, true, false, ◌&&◌, eqb, arith}
+use Rattle.std.proofs.Common.{◌≡◌, ℕ, ◌<◌, true, arith}
 use mathlib.Core.Path.{fun_ext}
 use Rattle.std.proofs.lemmas.Bool.Decides.{nat_tests}
 use Rattle.book.specs.Grid.{Grid, in_range, put}
@@ -7,17 +7,10 @@ use Rattle.book.specs.Grid.{Grid, in_range, put}
 pub range_from : (p t : ℕ) → p < 32 → t < 100 → in_range p t ≡ true
 range_from p t h k = grind (arith, nat_tests)
 
-pub range_parts : (p t : ℕ) → in_range p t ≡ true → (p < 32) × (t < 100)
-range_parts p t e = grind (arith, nat_tests)
-
 module _ {A : Type 0} (g : Grid A) (p t : ℕ) (y : A) where
   pub put_here : put g p t y p t ≡ y
   unfolding put
   put_here = grind (arith, nat_tests)
-
-  pub put_there : (x u : ℕ) → (eqb x p && eqb u t) ≡ false → put g p t y x u ≡ g x u
-  unfolding put
-  put_there x u e = grind arith
 
   -- putting what stands there changes nothing
   pub put_same : g p t ≡ y → put g p t y ≡ g
