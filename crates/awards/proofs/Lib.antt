@@ -1,3 +1,2 @@
 pub mod Quarters
 pub mod Awarding
-mod Repeated

@@ -51,6 +51,7 @@ fn check_award<Q: ReserveQuantity>(
 
 /// Awards a quantity to a provider in every quarter of a block, at a price for each direction: the obligations are raised, and
 /// what the award earns is entered in the sheet. Or changes nothing and says why.
+#[tactic(auto, using(crate::proofs::Awarding::zero_none), unfolding(crate::specs::Awards::award_refusal, crate::specs::Awards::award_after, crate::specs::Awards::award_sheet, span_moves::specs::Moves::span_refusal, span_moves::specs::Moves::span_after))]
 pub fn award<O: Book>(
     quarters: u8,
     obligations: &mut O,

@@ -1,10 +1,8 @@
 -- How many holdings are not zero.
-use Rattle.std.proofs.Common.{◌≡◌, ℕ, zero, suc, ◌+◌, ◌*◌, ◌<◌, ◌≤◌, Bool, true, false, cond, ◌&&◌, eqb, refl, ap, ⊎_elim, suc-mul, add-one, arith}
-use Rattle.std.proofs.lemmas.Bool.{cases_eq}
+use Rattle.std.proofs.Common.{◌≡◌, ℕ, zero, suc, ◌+◌, ◌*◌, ◌<◌, ◌≤◌, true, cond, refl, suc-mul, add-one, arith}
 use Rattle.std.proofs.lemmas.Bool.Decides.{nat_tests}
 use Rattle.quantity.specs.Measure.{Measure, is_zero}
 use Rattle.book.specs.Grid.{Grid, put, total, filled, taken}
-use Rattle.book.proofs.Grids.{put_here, put_there}
 
 pub total_none : (f : ℕ → ℕ) → total f 0 ≡ 0
 unfolding total
@@ -33,50 +31,32 @@ module _ (f : ℕ → ℕ) (c : ℕ) (cap : (k : ℕ) → f k ≤ c) where
   pub total_short : (i : ℕ) → f i < c → (n : ℕ) → i < n → total f n < n * c
   unfolding total
   total_short i less zero l = absurd (omega arith)
-  total_short i less (suc n) l =
-      ⊎_elim
-      (λ (e : n ≡ i). rw suc-mul (omega (arith, total_cap n, ap f e)))
-      (λ (e : n ≡ i → ⊥). rw suc-mul (omega (arith, total_short i less n (let w : i < n = omega arith in w), cap n)))
-      (cases_eq n i)
-
-apart_test : (x p u t : ℕ) → (x ≡ p → u ≡ t → ⊥) → (eqb x p && eqb u t) ≡ false
-apart_test x p u t n = grind (arith, nat_tests)
+  total_short i less (suc n) l = rw suc-mul (grind (arith, total_cap n, total_short i less n, cap n))
 
 -- two functions that agree but at i: their totals differ as they do there
 pub total_put : (f g : ℕ → ℕ) (i : ℕ) → ((k : ℕ) → (k ≡ i → ⊥) → f k ≡ g k) → (n : ℕ) → i < n → total f n + g i ≡ total g n + f i
 unfolding total
 total_put f g i e zero l = absurd (omega arith)
-total_put f g i e (suc n) l =
-    ⊎_elim
-    (λ (q : n ≡ i). omega (arith, total_alike f g n (λ k h. e k (λ v. omega arith)), ap f q, ap g q))
-    (λ (q : n ≡ i → ⊥). omega (arith, total_put f g i e n (let w : i < n = omega arith in w), e n q))
-    (cases_eq n i)
+total_put f g i e (suc n) l = grind (arith, total_alike f g n, total_put f g i e n, e)
 
 pub nothing_zero : {Q R : Type 0} (m : Measure Q R) → is_zero m m.nothing ≡ true
 nothing_zero m = m.same_alike m.nothing m.nothing refl
 
 module _ {Q R : Type 0} (m : Measure Q R) (held : Grid Q) where
-  filled_by : (b : Bool) → cond b 0 1 ≤ 1
-  filled_by true = omega arith
-  filled_by false = omega arith
-
   filled_cap : (p t : ℕ) → filled m held p t ≤ 1
-  filled_cap p t = filled_by (is_zero m (held p t))
-
-  provider_cap : (p : ℕ) → total (filled m held p) 100 ≤ 100
-  provider_cap p = total_cap (filled m held p) 1 (filled_cap p) 100
+  filled_cap p t = grind arith
 
   -- with a zero holding in the range not all of its 3,200 are taken
   pub taken_short : (p t : ℕ) → p < 32 → t < 100 → is_zero m (held p t) ≡ true → taken m held < 3200
   unfolding taken
   taken_short p t hp ht e =
-      total_short (λ x. total (filled m held x) 100) 100 provider_cap p
-      (total_short (filled m held p) 1 (filled_cap p) t (let z : filled m held p t ≡ 0 = ap (λ b. cond b 0 1) e in omega arith) 100 ht) 32 hp
+      total_short (λ x. total (filled m held x) 100) 100 (λ x. total_cap (filled m held x) 1 (filled_cap x) 100) p
+      (total_short (filled m held p) 1 (filled_cap p) t (grind arith) 100 ht) 32 hp
 
   -- where every holding is zero none is taken
   pub taken_none : ((p t : ℕ) → is_zero m (held p t) ≡ true) → taken m held ≡ 0
   unfolding taken
-  taken_none z = total_zeros (λ p. total (filled m held p) 100) (λ p. total_zeros (filled m held p) (λ t. ap (λ b. cond b 0 1) (z p t)) 100) 32
+  taken_none z = total_zeros (λ p. total (filled m held p) 100) (λ p. total_zeros (filled m held p) (λ t. grind (arith, z p t)) 100) 32
 
   -- the count is that of each provider's holdings
   pub taken_is : taken m held ≡ total (λ p. total (filled m held p) 100) 32
@@ -85,14 +65,14 @@ module _ {Q R : Type 0} (m : Measure Q R) (held : Grid Q) where
 
   -- one holding written: the count changes by that one
   pub taken_put : (p t : ℕ) → p < 32 → t < 100 → (q : Q) → taken m (put held p t q) + filled m held p t ≡ taken m held + cond (is_zero m q) 0 1
-  unfolding taken
+  unfolding taken put
   taken_put p t hp ht q =
+      let here : filled m (put held p t q) p t ≡ cond (is_zero m q) 0 1 = grind (arith, nat_tests) in
       omega (
         arith,
         total_put (λ x. total (filled m (put held p t q) x) 100) (λ x. total (filled m held x) 100) p (λ x n. total_alike (filled m (put held p t q) x) (filled m held x) 100 (λ u _. other x u (λ i _. n i))) 32 hp,
         total_put (filled m (put held p t q) p) (filled m held p) t (λ u n. other p u (λ _ j. n j)) 100 ht,
-        ap {B = ℕ} (λ b. cond b 0 1) (ap (is_zero m) (put_here held p t q)),
       )
     where
       other : (x u : ℕ) → (x ≡ p → u ≡ t → ⊥) → filled m (put held p t q) x u ≡ filled m held x u
-      other x u n = ap {B = ℕ} (λ b. cond b 0 1) (ap (is_zero m) (put_there held p t q x u (apart_test x p u t n)))
+      other x u n = grind (arith, nat_tests)

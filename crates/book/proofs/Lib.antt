@@ -2,5 +2,4 @@ pub mod Grids
 pub mod Counts
 pub mod Changes
 pub mod Told
-pub mod Rests
 pub mod Ranges

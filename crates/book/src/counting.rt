@@ -18,6 +18,7 @@ fn count_quarters<B: Book>(book: &B, provider: u8) -> usize
 }
 
 /// How many holdings of a book are not zero.
+#[tactic(auto, using(crate::proofs::Counts::total_none, crate::proofs::Counts::total_more, crate::proofs::Counts::taken_is, crate::proofs::Ranges::count_filled))]
 pub fn count_holdings<B: Book>(book: &B) -> usize
     ensures value { result ≡ taken B.Q.measure (B.holdings book.now) }
     ensures bound { result ≤ 3200 }

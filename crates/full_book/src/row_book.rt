@@ -24,7 +24,7 @@ pub struct RowBook<M, K> {
 
 impl<M: Slots<Slot = K::Row>, K: Quantity> RowBook<M, K> {
     // Replaces a holding by `new`, refuses as told where that is none, or where there is no free place.
-    #[tactic(auto, using(std::proofs::lemmas::Bool::Decides::nat_tests, crate::proofs::Tables::written_answer, crate::proofs::Tables::written_after, crate::proofs::Tables::few_zero_after, crate::proofs::Tables::few_answer, book::proofs::Grids::range_parts))]
+    #[tactic(auto, using(std::proofs::lemmas::Bool::Decides::nat_tests, crate::proofs::Tables::few_zero, crate::proofs::Tables::few_stays, crate::proofs::Tables::held_written, crate::proofs::Tables::never_full))]
     fn change(
         &mut self,
         at: Position,
@@ -80,7 +80,7 @@ impl<M: Slots<Slot = K::Row>, K: Quantity> Book for RowBook<M, K> {
     // These two bodies, `admits` and `layer` are those of the sparse book too. A trait that has them once would have to state of `change`
     // what each of the two books promises besides, and the calls here would still have to repeat the interface's promises beside it.
     // The interface's promises once more, and two of this book's own: rows beyond 3,200 stay, and so does the loan.
-    #[tactic(auto, using(book::proofs::Changes::raise_outside, book::proofs::Changes::raise_outside_after, book::proofs::Changes::raise_answer, book::proofs::Changes::raise_after))]
+    #[tactic(auto, using(book::proofs::Changes::raised_is), unfolding(book::specs::Calls::raise_refusal))]
     fn raise(&mut self, provider: u8, quarter: u8, quantity: K) -> Result<(), BookRefusal>
         ensures answer { answer_number (result_err result) ≡ answer_number (raise_refusal K.measure (rows_held K.measure (M.slots self.old.rows)) (rows_places (M.slots self.old.rows)) everything provider quarter quantity) }
         ensures after { amounts K.measure (rows_held K.measure (M.slots self.new.rows)) ≡ raised K.measure (rows_held K.measure (M.slots self.old.rows)) (rows_places (M.slots self.old.rows)) everything provider quarter quantity }
@@ -93,7 +93,7 @@ impl<M: Slots<Slot = K::Row>, K: Quantity> Book for RowBook<M, K> {
         self.change(at, sum, BookRefusal::SumDoesNotFit)
     }
 
-    #[tactic(auto, using(book::proofs::Changes::lower_outside, book::proofs::Changes::lower_outside_after, book::proofs::Changes::lower_answer, book::proofs::Changes::lower_after))]
+    #[tactic(auto, unfolding(book::specs::Calls::lower_refusal, book::specs::Calls::lowered))]
     fn lower(&mut self, provider: u8, quarter: u8, quantity: K) -> Result<(), BookRefusal>
         ensures answer { answer_number (result_err result) ≡ answer_number (lower_refusal K.measure (rows_held K.measure (M.slots self.old.rows)) (rows_places (M.slots self.old.rows)) provider quarter quantity) }
         ensures after { amounts K.measure (rows_held K.measure (M.slots self.new.rows)) ≡ lowered K.measure (rows_held K.measure (M.slots self.old.rows)) (rows_places (M.slots self.old.rows)) provider quarter quantity }

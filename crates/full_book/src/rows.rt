@@ -20,7 +20,7 @@ pub(crate) fn place(at: Position) -> usize
 }
 
 /// The holding, zero outside the range and where there are fewer than 3,200 rows.
-#[tactic(auto, using(std::proofs::lemmas::Bool::Decides::nat_tests, crate::proofs::Tables::told_few, crate::proofs::Tables::told_outside, crate::proofs::Tables::told_inside))]
+#[tactic(auto, using(std::proofs::lemmas::Bool::Decides::nat_tests, std::proofs::lemmas::List::get_or_read), unfolding(crate::specs::Rows::rows_held))]
 pub fn holding<K: Quantity>(rows: &[K::Row], provider: u8, quarter: u8) -> K
     ensures { result ≡ held_at K.measure (rows_held K.measure rows.now) provider quarter }
 {
@@ -43,7 +43,7 @@ fn free_of<K: Quantity>(rows: &[K::Row], provider: u8) -> usize
 }
 
 /// How many places are free: as many as there are zero holdings, or none where there are fewer than 3,200 rows.
-#[tactic(auto, using(std::proofs::lemmas::Bool::Decides::nat_tests, book::proofs::Counts::total_none, book::proofs::Counts::total_more, book::proofs::Counts::taken_is, crate::proofs::Tables::few_taken))]
+#[tactic(auto, using(std::proofs::lemmas::Bool::Decides::nat_tests, book::proofs::Counts::total_none, book::proofs::Counts::total_more, book::proofs::Counts::taken_is, crate::proofs::Tables::few_taken, crate::proofs::Tables::zeros_counted))]
 pub fn free<K: Quantity>(rows: &[K::Row]) -> usize
     ensures { result + taken K.measure (rows_held K.measure rows.now) ≡ rows_places rows.now }
 {

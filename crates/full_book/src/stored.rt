@@ -12,6 +12,7 @@ pub type StoredFullBook<K> = RowBook<Vec<<K as Quantity>::Row>, K>;
 
 impl<K: Quantity> StoredFullBook<K> {
     /// A book of 3,200 places with every holding zero, or want of memory.
+    #[tactic(auto, using(crate::proofs::Tables::zeros_empty))]
     pub fn new(heap: Global) -> Result<StoredFullBook<K>, AllocError>
         ensures empty { IfOk result (λ b. amounts K.measure (rows_held K.measure b.rows.items) ≡ (λ _ _. K.measure.none)) }
         ensures places { IfOk result (λ b. rows_places b.rows.items ≡ 3200) }

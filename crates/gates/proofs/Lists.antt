@@ -1,23 +1,15 @@
 -- The gate's list, request by request.
-use Rattle.std.proofs.Common.{◌≡◌, ℕ, zero, suc, ◌+◌, ◌≤◌, List, [], ◌∷◌, length, take, Some, None, Option, sym, refl, ap, ◌∙◌, add-one, arith}
-use Rattle.std.proofs.lemmas.Option.{none-some, same_Some}
+use Rattle.std.proofs.Common.{◌≡◌, ℕ, zero, suc, ◌+◌, ◌≤◌, List, [], ◌∷◌, length, take, Option, refl, add-one, arith}
 use Rattle.quantity.specs.Measure.{Measure}
 use Rattle.book.specs.Grid.{Grid}
 use Rattle.book.specs.Admissions.{Admission}
 use Rattle.refusals.specs.declared.refusal.Refusal.{Refusal}
 use Rattle.requests.specs.declared.request.Status.{Status}
-use Rattle.requests.specs.declared.request.Status.TheVariants.{WaitingForCounterpart, BalanceOk, BalanceError, Confirmed, Rejected, Waiting, Accepted, Declined, Lapsed}
 use Rattle.requests.specs.declared.request.Request.{Request}
-use Rattle.requests.specs.Announcing.{changed_of, changed_at}
+use Rattle.requests.specs.Announcing.{changed_at}
 use Rattle.std.specs.List.{slice_get}
 use Rattle.gates.specs.declared.gate.Gate.{Gate}
-use Rattle.gates.specs.declared.gate.Gate.TheVariants.{First, Second}
 use Rattle.gates.specs.Gates.{judged, cause, settled, passed_on, passed_at, after_moves, gated, Decided, Judged}
-
--- a change behind the first element
-changed_behind : {E : Type 0} (f : E → E) (x : E) (xs : List E) (i : ℕ) (o : Option E) → changed_of f (x ∷ xs) (suc i) o ≡ x ∷ changed_of f xs i o
-changed_behind f x xs i None = refl
-changed_behind f x xs i (Some y) = refl
 
 module _ {Q R : Type 0} (m : Measure Q R) (places : ℕ) (admission : ℕ → ℕ → Q → Admission) where
   -- the list while the gate is at place i: those before are settled, the others as they were
@@ -30,22 +22,22 @@ module _ {Q R : Type 0} (m : Measure Q R) (places : ℕ) (admission : ℕ → �
   midway_start gate held [] = refl
   midway_start gate held (r ∷ rs) = refl
 
+  pub moved_start : (held : Grid Q) → after_moves m places admission held [] ≡ held
+  unfolding after_moves
+  moved_start held = refl
+
   pub midway_end : (gate : Gate) (held : Grid Q) (xs : List (Request R)) (i : ℕ) → length xs ≤ i → midway gate held i xs ≡ gated m places admission gate held xs
   unfolding gated
   midway_end gate held [] i h = refl
   midway_end gate held (r ∷ rs) zero h = absurd (omega arith)
-  midway_end gate held (r ∷ rs) (suc i) h = ap (λ zs. settled m places admission gate held r ∷ zs) (midway_end gate (passed_on m places admission held r) rs i (omega arith))
+  midway_end gate held (r ∷ rs) (suc i) h = grind (arith, midway_end gate (passed_on m places admission held r) rs i)
 
   -- one turn of the gate settles the request at place i over what the moves before it left
   next_settled : (gate : Gate) (held : Grid Q) (xs : List (Request R)) (i : ℕ) → changed_at (settled m places admission gate (after_moves m places admission held (take i xs))) (midway gate held i xs) i ≡ midway gate held (suc i) xs
   unfolding after_moves
   next_settled gate held [] i = refl
-  next_settled gate held (r ∷ rs) zero = ap (λ zs. settled m places admission gate held r ∷ zs) (sym (midway_start gate (passed_on m places admission held r) rs))
-  next_settled gate held (r ∷ rs) (suc i) =
-      let then = passed_on m places admission held r in
-      let ms = midway gate then i rs in
-      changed_behind (settled m places admission gate (after_moves m places admission then (take i rs))) (settled m places admission gate held r) ms i (slice_get ms i)
-      ∙ ap (λ zs. settled m places admission gate held r ∷ zs) (next_settled gate then rs i)
+  next_settled gate held (r ∷ rs) zero = grind (arith, midway_start gate (passed_on m places admission held r) rs)
+  next_settled gate held (r ∷ rs) (suc i) = grind (arith, next_settled gate (passed_on m places admission held r) rs i)
 
   next_moved : (gate : Gate) (held : Grid Q) (xs : List (Request R)) (i : ℕ) → passed_at m places admission (after_moves m places admission held (take i xs)) (slice_get (midway gate held i xs) i) ≡ after_moves m places admission held (take (suc i) xs)
   unfolding after_moves
@@ -62,23 +54,10 @@ module _ {Q R : Type 0} (m : Measure Q R) (places : ℕ) (admission : ℕ → �
 
   -- every request is decided as its own move says
   decided : (gate : Gate) (why : Option Refusal) (old : Status) → Decided m places admission gate why old (judged gate why old)
-  decided gate None BalanceOk = ((λ e. refl), (λ e. refl), λ c e. cc)
-  decided gate (Some c) BalanceOk = ((λ e. cc), (λ e. cc), λ d e. cc)
-  decided First why WaitingForCounterpart = refl
-  decided Second why WaitingForCounterpart = refl
-  decided First why BalanceError = refl
-  decided Second why BalanceError = refl
-  decided gate why Confirmed = refl
-  decided gate why (Rejected c) = refl
-  decided gate why Waiting = refl
-  decided gate why Accepted = refl
-  decided gate why Declined = refl
-  decided gate why Lapsed = refl
+  decided gate why old = grind arith
 
   pub gate_judges : (gate : Gate) (held : Grid Q) (xs : List (Request R)) → Judged m places admission gate held xs (gated m places admission gate held xs)
   unfolding after_moves gated
-  gate_judges gate held [] i r e = absurd (none-some r e)
-  gate_judges gate held (x ∷ xs) zero r e =
-      let f = same_Some x r e in
-      (judged gate (cause m places admission held r) r.status, ap (λ z. Some (settled m places admission gate held z)) f, decided gate (cause m places admission held r) r.status)
+  gate_judges gate held [] i r e = grind arith
+  gate_judges gate held (x ∷ xs) zero r e = (judged gate (cause m places admission held r) r.status, grind arith, decided gate (cause m places admission held r) r.status)
   gate_judges gate held (x ∷ xs) (suc i) r e = gate_judges gate (passed_on m places admission held x) xs i r e

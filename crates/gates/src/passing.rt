@@ -46,6 +46,7 @@ fn status_of_move(made: Result<(), Refusal>) -> Status
 
 // Makes the move of a balanced request, and tells how it stands then.
 // Its answer is that of all holdings of the same amounts.
+#[tactic(auto, using(crate::proofs::Moved::left_alike), unfolding(span_moves::specs::Moves::move_after))]
 fn make_move<O: Book>(obligations: &mut O, request: Request<<O::Q as Quantity>::Row>) -> Status
     ensures status { AlikeOver O.Q.measure (O.holdings obligations.old) (λ other. result ≡ outcome (cause O.Q.measure (O.places obligations.old) (O.admission obligations.old) other request)) }
     ensures after { AlikeOver O.Q.measure (O.holdings obligations.old) (λ other. amounts O.Q.measure (O.holdings obligations.new) ≡ amounts O.Q.measure (moved_on O.Q.measure (O.places obligations.old) (O.admission obligations.old) other request)) }
@@ -92,6 +93,7 @@ fn settle_at<O: Book, L: Records<Record = Request<<O::Q as Quantity>::Row>>>(
 
 /// Takes every balanced request in list order: its move is made, or a cause keeps it from being made and is told by its status.
 /// The second gate also rejects every other unresolved request, without a cause.
+#[tactic(auto, using(crate::proofs::Lists::midway_start, crate::proofs::Lists::midway_end, crate::proofs::Lists::settled_next, crate::proofs::Lists::moved_start, crate::proofs::Lists::moved_next))]
 pub fn pass_gate<O: Book, L: Records<Record = Request<<O::Q as Quantity>::Row>>>(
     obligations: &mut O,
     requests: &mut L,

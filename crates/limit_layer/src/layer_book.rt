@@ -65,6 +65,7 @@ where
         self.below.free()
     }
 
+    #[tactic(auto, using(crate::proofs::Layers::plus_nothing), unfolding(crate::specs::Limits::limited))]
     fn admits(&self, provider: u8, quarter: u8, quantity: B::Q) -> Result<(), Cause> {
         let below = self.below.admits(provider, quarter, quantity);
         // Called for what it promises: values of one amount have the same tenths, so they are admitted alike.
@@ -84,7 +85,7 @@ where
         self.below.layer().saturating_add(1)
     }
 
-    #[tactic(auto, using(book::proofs::Changes::raise_outside, book::proofs::Changes::raise_outside_after))]
+    #[tactic(auto, using(book::proofs::Changes::raised_is), unfolding(book::specs::Calls::raise_refusal, crate::specs::Limits::limited))]
     fn raise(&mut self, provider: u8, quarter: u8, quantity: B::Q) -> Result<(), BookRefusal> {
         Position::new(provider, quarter)?;
         let held = self.below.holding(provider, quarter);

@@ -5,7 +5,7 @@ use Rattle.quantity.specs.Measure.{Measure}
 use Rattle.book.specs.Grid.{Grid}
 use Rattle.refusals.specs.declared.refusal.Refusal.{Refusal}
 use Rattle.span_moves.specs.declared.change.Change.{Change}
-use Rattle.span_moves.specs.Spans.{next, misfit, first_of, unless_some, unfit, count}
+use Rattle.span_moves.specs.Spans.{next, first_of, unfit, count}
 
 -- nothing is refused in the quarters from lo on and before hi
 abbrev pub Clear : (ℕ → Option Refusal) → ℕ → ℕ → Type 0
@@ -29,8 +29,4 @@ module _ (f : ℕ → Option Refusal) where
 
 -- where no quarter is unfit, every holding of the span becomes something
 pub all_fit : {Q R : Type 0} (m : Measure Q R) (held : Grid Q) (change : Change) (p first last : ℕ) (q : Q) → first_of (unfit m held change p q) first (count first last) ≡ None → (t : ℕ) → first ≤ t → t ≤ last → is_some (next m change (held p t) q) ≡ true
-all_fit {Q = Q} m held change p first last q e t l h = by (next m change (held p t) q) (clear_from (unfit m held change p q) first (count first last) t e l (omega arith))
-  where
-    by : (o : Option Q) → unless_some (misfit change p t) o ≡ None → is_some o ≡ true
-    by (Some x) e = refl
-    by None e = grind arith
+all_fit m held change p first last q e t l h = grind (arith, clear_from (unfit m held change p q) first (count first last) t e)

@@ -3,6 +3,10 @@ use Rattle.std.proofs.Common.{◌≡◌, ℕ, zero, suc, ◌+◌, ◌-◌, ◌�
 use Rattle.span_moves.specs.Spans.{step_left, then_left, left}
 
 module _ (was will : ℕ → Bool) (free : Option ℕ) (lo : ℕ) where
+  pub left_start : (n : ℕ) → n ≡ 0 → left was will free lo n ≡ free
+  unfolding left
+  left_start n e = rw e refl
+
   pub left_next : (t : ℕ) → lo ≤ t → left was will free lo (t + 1 - lo) ≡ then_left (was t) (will t) (left was will free lo (t - lo))
   unfolding left
   left_next t l = rw (let n : t + 1 - lo ≡ suc (t - lo) = omega arith in n, let k : lo + (t - lo) ≡ t = omega arith in k) refl
@@ -20,16 +24,16 @@ module _ (was will : ℕ → Bool) (free : Option ℕ) (lo : ℕ) where
   left_before t hi l h e = grind (arith, left_wanting t hi l h)
 
 -- a count never passes what was free by more than the steps
-step_left-le : (a b : Bool) (f n : ℕ) → f ≤ n → (r : ℕ) → step_left a b f ≡ Some r → r ≤ n + 1
-step_left-le a b zero n u r e = grind arith
-step_left-le a b (suc f) n u r e = grind arith
+step_left_le : (a b : Bool) (f n : ℕ) → f ≤ n → (r : ℕ) → step_left a b f ≡ Some r → r ≤ n + 1
+step_left_le a b zero n u r e = grind arith
+step_left_le a b (suc f) n u r e = grind arith
 
-pub left-le : (was will : ℕ → Bool) (free lo n f : ℕ) → left was will (Some free) lo n ≡ Some f → f ≤ free + n
+pub left_le : (was will : ℕ → Bool) (free lo n f : ℕ) → left was will (Some free) lo n ≡ Some f → f ≤ free + n
 unfolding left
-left-le was will free lo zero f e = grind arith
-left-le was will free lo (suc n) f e = grind (arith, left-le was will free lo n, step_left-le)
+left_le was will free lo zero f e = grind arith
+left_le was will free lo (suc n) f e = grind (arith, left_le was will free lo n, step_left_le)
 
-pub left-None : (was will : ℕ → Bool) (lo n : ℕ) → left was will None lo n ≡ None
+pub left_none : (was will : ℕ → Bool) (lo n : ℕ) → left was will None lo n ≡ None
 unfolding left
-left-None was will lo zero = refl
-left-None was will lo (suc n) = rw (left-None was will lo n) refl
+left_none was will lo zero = refl
+left_none was will lo (suc n) = rw (left_none was will lo n) refl

@@ -9,7 +9,7 @@ use Rattle.span_moves.specs.declared.change.Change.TheVariants.{Lowering, Raisin
 use Rattle.span_moves.specs.Spans.{next, spanned, left_after}
 use Rattle.span_moves.specs.Ready.{Welcome}
 use Rattle.span_moves.specs.Moves.{moved_holdings, moved}
-use Rattle.span_moves.proofs.Alike.{some_from, next_alike, became_row, left_row}
+use Rattle.span_moves.proofs.Alike.{next_same, became_row, left_row}
 
 module _ {Q R : Type 0} (m : Measure Q R) (held held1 : Grid Q) (giver taker : ℕ) (q : Q) (lo hi : ℕ) (apart : giver ≡ taker → ⊥) (lowered : amounts m held1 ≡ spanned m held Lowering giver q lo hi) where
   -- the lowering leaves the taker's holdings
@@ -18,9 +18,7 @@ module _ {Q R : Type 0} (m : Measure Q R) (held held1 : Grid Q) (giver taker : �
   same u = rw (ap (λ g. g taker u) lowered) (grind (arith, nat_tests))
 
   pub still_takes : (t : ℕ) → is_some (next m Raising (held taker t) q) ≡ true → is_some (next m Raising (held1 taker t) q) ≡ true
-  still_takes t h =
-      let d = some_from (next m Raising (held taker t) q) h in
-      rw (next_alike m Raising (held1 taker t) (held taker t) q q d.0 (same t) refl d.1).1 refl
+  still_takes t h = grind (arith, next_same m (held1 taker t) (held taker t) q q (same t) refl Raising)
 
   pub still_welcome : (places : ℕ) (admission : ℕ → ℕ → Q → Admission) (t : ℕ) → Welcome m held places admission Raising taker q t → Welcome m held1 places admission Raising taker q t
   still_welcome places admission t w a e = w a (e ∙ same t)

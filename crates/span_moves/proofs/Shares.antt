@@ -6,9 +6,8 @@ use Rattle.book.specs.Grid.{Grid, amounts}
 use Rattle.book.specs.Admissions.{Admission}
 use Rattle.refusals.proofs.Firsts.{none_both}
 use Rattle.span_moves.specs.declared.change.Change.TheVariants.{Lowering, Raising}
-use Rattle.span_moves.specs.Spans.{next, first_of, count, becomes, unfit, spanned}
+use Rattle.span_moves.specs.Spans.{first_of, count, becomes, unfit, spanned}
 use Rattle.span_moves.specs.Moves.{span_refusal, move_refusal, moved_holdings, moved, share, Passed}
-use Rattle.span_moves.proofs.Alike.{some_from, next_is}
 use Rattle.span_moves.proofs.Firsts.{all_fit}
 
 pub moved_amounts : {Q R : Type 0} (m : Measure Q R) (held : Grid Q) (giver taker : ℕ) (q : Q) (lo hi : ℕ) → amounts m (moved_holdings m held giver taker q lo hi) ≡ moved m held giver taker q lo hi
@@ -18,14 +17,10 @@ moved_amounts m held giver taker q lo hi = refl
 -- what a lowering takes, and a raise adds
 module _ {Q R : Type 0} (m : Measure Q R) (held : Grid Q) (p first last : ℕ) (q : Q) where
   lost : first_of (unfit m held Lowering p q) first (count first last) ≡ None → (u : ℕ) → first ≤ u → u ≤ last → m.plus (m.amount q) (m.amount (becomes m held Lowering p q u)) ≡ m.amount (held p u)
-  lost e u l h =
-      let d = some_from (next m Lowering (held p u) q) (all_fit m held Lowering p first last q e u l h) in
-      rw d.1 (next_is m Lowering (held p u) q d.0 d.1)
+  lost e u l h = grind (arith, all_fit m held Lowering p first last q e u l h, m.remains (held p u) q)
 
   won : first_of (unfit m held Raising p q) first (count first last) ≡ None → (u : ℕ) → first ≤ u → u ≤ last → m.amount (becomes m held Raising p q u) ≡ m.plus (m.amount q) (m.amount (held p u))
-  won e u l h =
-      let d = some_from (next m Raising (held p u) q) (all_fit m held Raising p first last q e u l h) in
-      rw (d.1, m.commutes (m.amount q) (m.amount (held p u))) (next_is m Raising (held p u) q d.0 d.1)
+  won e u l h = grind (arith, all_fit m held Raising p first last q e u l h, m.joins (held p u) q, m.commutes (m.amount q) (m.amount (held p u)))
 
 -- a raise that is not refused adds the share of the span to every holding
 pub raise_adds : {Q R : Type 0} (m : Measure Q R) (held : Grid Q) (places : ℕ) (admission : ℕ → ℕ → Q → Admission) (p first last : ℕ) (q : Q) → span_refusal m held places admission Raising p first last q ≡ None → (x u : ℕ) → spanned m held Raising p q first (last + 1) x u ≡ m.plus (share m p first last (m.amount q) x u) (amounts m held x u)

@@ -1,19 +1,16 @@
 -- What refuses a whole change or move, of all holdings and quantities of the same amounts.
-use Rattle.std.proofs.Common.{◌≡◌, ℕ, ◌+◌, ◌≤◌, List, [], ◌∷◌, Some, None, Option, sym, refl, ap, ◌∙◌, arith}
+use Rattle.std.proofs.Common.{◌≡◌, ℕ, ◌≤◌, [], ◌∷◌, None, sym, refl, ap, ◌∙◌, arith}
 use Rattle.quantity.specs.Measure.{Measure}
 use Rattle.book.specs.Grid.{Grid, put, amounts}
 use Rattle.book.specs.Admissions.{Admission}
 use Rattle.book.proofs.Grids.{put_here, put_same}
 use Rattle.book.proofs.Changes.{amounts_put}
-use Rattle.refusals.specs.declared.refusal.Refusal.{Refusal}
-use Rattle.refusals.specs.Checks.{no_provider, no_span, one_provider}
-use Rattle.refusals.specs.First.{first_some, unless_refused}
-use Rattle.refusals.proofs.Firsts.{front_stops, front_passes}
+use Rattle.refusals.specs.First.{first_some}
 use Rattle.span_moves.specs.declared.change.Change.{Change}
 use Rattle.span_moves.specs.declared.change.Change.TheVariants.{Lowering, Raising}
-use Rattle.span_moves.specs.Spans.{Alike, first_of, crowding, count, barred_sum, unfit, unadmitted, spanned, left_after}
+use Rattle.span_moves.specs.Spans.{Alike, first_of, crowding, count, barred_sum, unfit, unadmitted, left_after}
 use Rattle.span_moves.specs.Ready.{Welcome}
-use Rattle.span_moves.specs.Moves.{unwelcome, free_places, change_checks, span_refusal, span_after, move_checks, move_refusal, move_after, moved}
+use Rattle.span_moves.specs.Moves.{unwelcome, free_places, change_checks, move_checks}
 use Rattle.span_moves.proofs.Firsts.{clear_from}
 use Rattle.span_moves.proofs.Alike.{free_alike, fits_alike, lefts_alike}
 
@@ -32,33 +29,3 @@ welcome_from m held places admission Raising p first last q barred t l h =
     λ a e.
     let same : amounts m (put held p t a) ≡ amounts m held = amounts_put m held p t a ∙ put_same (amounts m held) p t (m.amount a) (sym e) in
     ap (λ x. barred_sum (admission p t) p t (m.joined x q)) (sym (put_here held p t a)) ∙ clear_from (unadmitted m (put held p t a) admission p q) first (count first last) t (sym (barred (put held p t a) q same refl)) l (omega arith)
-
--- a change of a span, by what its shape and its checks answer
-pub span_refusal-shape : (p first last : ℕ) (x : Refusal) → first_some (no_provider p ∷ (no_span first last ∷ [])) ≡ Some x → {Q R : Type 0} (m : Measure Q R) (held : Grid Q) (places : ℕ) (admission : ℕ → ℕ → Q → Admission) (change : Change) (q : Q) → span_refusal m held places admission change p first last q ≡ Some x
-unfolding span_refusal
-span_refusal-shape p first last x e m held places admission change q = front_stops (no_provider p ∷ (no_span first last ∷ [])) _ x e
-
-pub span_refusal-checks : (p first last : ℕ) → first_some (no_provider p ∷ (no_span first last ∷ [])) ≡ None → {Q R : Type 0} (m : Measure Q R) (held : Grid Q) (places : ℕ) (admission : ℕ → ℕ → Q → Admission) (change : Change) (q : Q) → span_refusal m held places admission change p first last q ≡ change_checks m held places admission change p first last q
-unfolding span_refusal
-span_refusal-checks p first last e m held places admission change q = front_passes (no_provider p ∷ (no_span first last ∷ [])) _ e
-
-pub span_after-is : (o : Option Refusal) {Q R : Type 0} (m : Measure Q R) (held : Grid Q) (places : ℕ) (admission : ℕ → ℕ → Q → Admission) (change : Change) (p first last : ℕ) (q : Q) → o ≡ span_refusal m held places admission change p first last q → span_after m held places admission change p first last q ≡ unless_refused o (spanned m held change p q first (last + 1)) (amounts m held)
-unfolding span_after
-span_after-is o m held places admission change p first last q e = rw e refl
-
--- what refuses a move by its shape
-abbrev shape : (giver taker first last : ℕ) → List (Option Refusal)
-shape giver taker first last = no_provider giver ∷ (no_provider taker ∷ (no_span first last ∷ (one_provider giver taker ∷ [])))
-
--- a move of a span, likewise
-pub move_refusal-shape : (giver taker first last : ℕ) (x : Refusal) → first_some (shape giver taker first last) ≡ Some x → {Q R : Type 0} (m : Measure Q R) (held : Grid Q) (places : ℕ) (admission : ℕ → ℕ → Q → Admission) (q : Q) → move_refusal m held places admission giver taker first last q ≡ Some x
-unfolding move_refusal
-move_refusal-shape giver taker first last x e m held places admission q = front_stops (shape giver taker first last) _ x e
-
-pub move_refusal-checks : (giver taker first last : ℕ) → first_some (shape giver taker first last) ≡ None → {Q R : Type 0} (m : Measure Q R) (held : Grid Q) (places : ℕ) (admission : ℕ → ℕ → Q → Admission) (q : Q) → move_refusal m held places admission giver taker first last q ≡ move_checks m held places admission giver taker first last q
-unfolding move_refusal
-move_refusal-checks giver taker first last e m held places admission q = front_passes (shape giver taker first last) _ e
-
-pub move_after-is : (o : Option Refusal) {Q R : Type 0} (m : Measure Q R) (held : Grid Q) (places : ℕ) (admission : ℕ → ℕ → Q → Admission) (giver taker first last : ℕ) (q : Q) → o ≡ move_refusal m held places admission giver taker first last q → move_after m held places admission giver taker first last q ≡ unless_refused o (moved m held giver taker q first (last + 1)) (amounts m held)
-unfolding move_after
-move_after-is o m held places admission giver taker first last q e = rw e refl

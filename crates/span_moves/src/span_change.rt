@@ -92,6 +92,7 @@ impl<Q: Quantity> SpanChange<Q> {
 
     /// How many places are free after the change of each quarter, by rising quarter; none where a place is wanting.
     /// A count of 128 bits cannot overflow, however many places a book has.
+    #[tactic(auto, using(crate::proofs::Lefts::left_start, crate::proofs::Lefts::left_next, crate::proofs::Lefts::left_le))]
     pub fn count_places<B: Book<Q = Q>>(self, book: &B, free: u128) -> Option<u128>
         requires { free < 2 ^ 65 }
         ensures { result ≡ left_after Q.measure (B.holdings book.now) self.change self.provider.number self.quantity (Some free) self.span.first (count self.span.first self.span.last) }

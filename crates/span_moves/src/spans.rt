@@ -15,6 +15,7 @@ use refusals::passage::{Passage, ProviderSpan};
 use refusals::refusal::Refusal;
 
 // Changes every holding of a span, or changes nothing and says why.
+#[tactic(auto, unfolding(crate::specs::Moves::span_refusal, crate::specs::Moves::span_after))]
 fn change_span<B: Book>(
     book: &mut B,
     change: Change,
@@ -56,6 +57,7 @@ pub fn lower_span<B: Book>(book: &mut B, span: ProviderSpan, quantity: B::Q) -> 
 
 /// Moves the quantity from the giver to the taker in every quarter of a span, or changes nothing and says why.
 /// All lowerings come before all raisings.
+#[tactic(auto, unfolding(crate::specs::Moves::move_refusal, crate::specs::Moves::move_after))]
 pub fn move_span<B: Book>(book: &mut B, passage: Passage, quantity: B::Q) -> Result<(), Refusal>
     ensures answer { answer_number (result_err result) ≡ answer_number (move_refusal B.Q.measure (B.holdings book.old) (B.places book.old) (B.admission book.old) passage.giver passage.taker passage.first passage.last quantity) }
     ensures alike { Alike B.Q.measure (B.holdings book.old) quantity (λ other q. move_refusal B.Q.measure other (B.places book.old) (B.admission book.old) passage.giver passage.taker passage.first passage.last q) (result_err result) }

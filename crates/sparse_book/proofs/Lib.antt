@@ -1,9 +1,7 @@
 mod Firsts
-mod Grids
 mod Slots
 mod Counting
 mod Freeing
 mod Taking
 mod Settling
-pub mod Calls
 mod Blank

@@ -26,6 +26,7 @@ pub struct RecordBook<M: Slots<Slot = Option<Record<K::Row>>>, K: Quantity> {
 
 impl<M: Slots<Slot = Option<Record<K::Row>>>, K: Quantity> RecordBook<M, K> {
     // Makes a holding `new`, refuses as told where that is none, or where there is no free slot.
+    #[tactic(auto, using(crate::proofs::Freeing::apart_released, crate::proofs::Slots::held_told, crate::proofs::Settling::zero_amounts, crate::proofs::Settling::some_amounts, crate::proofs::Freeing::gone, crate::proofs::Taking::taken_apart, crate::proofs::Settling::full_is), unfolding(crate::specs::Records::settled, crate::specs::Records::place_for))]
     fn change(
         &mut self,
         at: Position,
@@ -93,7 +94,7 @@ impl<M: Slots<Slot = Option<Record<K::Row>>>, K: Quantity> Book for RecordBook<M
 
     // The bodies of the full book: see there.
     // The interface's promises once more, and two of this book's own: which slot is taken or freed, and that the loan stays.
-    #[tactic(auto, using(book::proofs::Changes::raise_outside, book::proofs::Changes::raise_outside_after, book::proofs::Changes::raise_answer, book::proofs::Changes::raise_after, crate::proofs::Calls::raise_outside_slots, crate::proofs::Calls::raise_slots))]
+    #[tactic(auto, using(book::proofs::Changes::raised_is), unfolding(crate::specs::Records::raised_slots, book::specs::Calls::raise_refusal))]
     fn raise(&mut self, provider: u8, quarter: u8, quantity: K) -> Result<(), BookRefusal>
         ensures answer { answer_number (result_err result) ≡ answer_number (raise_refusal K.measure (records_held K.measure (M.slots self.old.slots)) (length (M.slots self.old.slots)) everything provider quarter quantity) }
         ensures after { amounts K.measure (records_held K.measure (M.slots self.new.slots)) ≡ raised K.measure (records_held K.measure (M.slots self.old.slots)) (length (M.slots self.old.slots)) everything provider quarter quantity }
@@ -106,7 +107,7 @@ impl<M: Slots<Slot = Option<Record<K::Row>>>, K: Quantity> Book for RecordBook<M
         self.change(at, sum, BookRefusal::SumDoesNotFit)
     }
 
-    #[tactic(auto, using(book::proofs::Changes::lower_outside, book::proofs::Changes::lower_outside_after, book::proofs::Changes::lower_answer, book::proofs::Changes::lower_after, crate::proofs::Calls::lower_outside_slots, crate::proofs::Calls::lower_slots))]
+    #[tactic(auto, unfolding(book::specs::Calls::lower_refusal, book::specs::Calls::lowered, crate::specs::Records::lowered_slots))]
     fn lower(&mut self, provider: u8, quarter: u8, quantity: K) -> Result<(), BookRefusal>
         ensures answer { answer_number (result_err result) ≡ answer_number (lower_refusal K.measure (records_held K.measure (M.slots self.old.slots)) (length (M.slots self.old.slots)) provider quarter quantity) }
         ensures after { amounts K.measure (records_held K.measure (M.slots self.new.slots)) ≡ lowered K.measure (records_held K.measure (M.slots self.old.slots)) (length (M.slots self.old.slots)) provider quarter quantity }

@@ -53,7 +53,6 @@ fn told_at<K: Quantity>(slots: &[Option<Record<K::Row>>], place: Option<usize>) 
 }
 
 /// The holding, zero outside the range.
-#[tactic(auto, using(book::proofs::Changes::held_inside, crate::proofs::Slots::held_told))]
 pub fn holding<K: Quantity>(slots: &[Option<Record<K::Row>>], provider: u8, quarter: u8) -> K
     ensures { result ≡ held_at K.measure (records_held K.measure slots.now) provider quarter }
 {

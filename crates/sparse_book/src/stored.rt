@@ -13,6 +13,7 @@ pub type StoredSparseBook<K> = RecordBook<Vec<Option<Record<<K as Quantity>::Row
 
 impl<K: Quantity> StoredSparseBook<K> {
     /// A book of as many places as are asked, with every holding zero, or want of memory.
+    #[tactic(auto, using(crate::proofs::Blank::resized, crate::proofs::Blank::free_apart, crate::proofs::Blank::free_empty))]
     pub fn new(heap: Global, places: usize) -> Result<StoredSparseBook<K>, AllocError>
         ensures empty { IfOk result (λ b. amounts K.measure (records_held K.measure b.slots.items) ≡ (λ _ _. K.measure.none)) }
         ensures places { IfOk result (λ b. length b.slots.items ≡ places) }

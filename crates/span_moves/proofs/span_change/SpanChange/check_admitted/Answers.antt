@@ -9,5 +9,4 @@ returns-in_err-check_one g c other r e f =
     rw (p.1, p.2) (sym (first_of-hit _ _ _ c.loop-quarter.quarter _ (omega arith) (omega arith) (c.loop-quarter.invariant other r e f) (sym (rw (c.at.ensures.provider, c.at.ensures.quarter) at (c.in_err-check_one.ensures other r e f)))))
 
 pub returns-in_ok-check_one : goal.returns-in_ok-check_one
-returns-in_ok-check_one g c other r e f =
-    sym (first_of-clear _ _ _ (λ k l h. grind (arith, c.loop-quarter.invariant other r e f, rw (c.at.ensures.provider, c.at.ensures.quarter) at (c.in_ok-check_one.ensures other r e f))))
+returns-in_ok-check_one g c other r e f = grind (arith, first_of-clear, c.loop-quarter.invariant other r e f, c.in_ok-check_one.ensures other r e f)

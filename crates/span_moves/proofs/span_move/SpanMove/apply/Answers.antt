@@ -1,14 +1,9 @@
-use Rattle.std.proofs.Common.{◌≡◌, ◌+◌, ◌-◌, Some, ◌∙◌}
-use Rattle.book.specs.Grid.{amounts, taken}
-use Rattle.span_moves.specs.declared.change.Change.TheVariants.{Lowering}
-use Rattle.span_moves.specs.Spans.{spanned, count}
+use Rattle.std.proofs.Common.{◌+◌, ◌-◌, Some, ◌∙◌}
+use Rattle.book.specs.Grid.{taken}
+use Rattle.span_moves.specs.Spans.{count}
 use Rattle.span_moves.proofs.Moving.{still_takes, still_welcome, same_left, moved_is}
-use Rattle.span_moves.proofs.span_move.SpanMove.apply.Given as given
 use Rattle.span_moves.proofs.span_move.SpanMove.apply.Goals as goal
 use Rattle.span_moves.proofs.span_move.SpanMove.apply.Goals.{After-apply}
-
-lowered : (g : given.Over) (c : After-apply g) → amounts g.Q.Quantity.measure (g.B.Book.holdings c.apply.new.book) ≡ spanned g.Q.Quantity.measure (g.B.Book.holdings c.args.book.now) Lowering c.args.self.giver.number c.args.self.quantity c.args.self.span.first (c.args.self.span.last + 1)
-lowered g c = rw c.change.ensures at c.apply.ensures.after
 
 pub apply-requires-2 : goal.apply-requires-2
 apply-requires-2 g c =
@@ -16,7 +11,7 @@ apply-requires-2 g c =
     let held = g.B.Book.holdings c.args.book.now in
     let held1 = g.B.Book.holdings c.apply.new.book in
     let x = c.args.self in
-    let low = lowered g (goal.at.apply-requires-2 g c).After-apply in
+    let low = rw c.change.ensures at c.apply.ensures.after in
     let left = rw c.change.ensures at c.apply.ensures.left in
     rw (c.change-2.ensures, c.apply.ensures.rest.places_stay, c.apply.ensures.rest.admission_stays) (record {
       fits = λ t l h. still_takes m held held1 x.giver.number x.taker.number x.quantity x.span.first (x.span.last + 1) x.apart low t (c.requires.fits t l h);
@@ -28,5 +23,5 @@ apply-requires-2 g c =
 pub returns-clause-after : goal.returns-clause-after
 returns-clause-after g c =
     let x = c.args.self in
-    let low = lowered g (goal.at.returns-clause-after g c).After-apply in
+    let low = rw c.change.ensures at c.apply.ensures.after in
     (rw c.change-2.ensures at c.apply-2.ensures.after) ∙ moved_is g.Q.Quantity.measure (g.B.Book.holdings c.args.book.now) (g.B.Book.holdings c.apply.new.book) x.giver.number x.taker.number x.quantity x.span.first (x.span.last + 1) x.apart low

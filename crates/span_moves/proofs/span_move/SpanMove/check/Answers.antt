@@ -1,80 +1,34 @@
-use Rattle.std.proofs.Common.{◌≡◌, ◌-◌, [], ◌∷◌, Some, None, sym, refl, arith}
-use Rattle.std.proofs.lemmas.Result.{err_from_is_err_and}
-use Rattle.quantity.specs.Measure.{is_zero}
-use Rattle.book.specs.Grid.{taken}
-use Rattle.refusals.specs.First.{first_some}
+use Rattle.std.proofs.Common.{sym, arith}
 use Rattle.span_moves.specs.declared.change.Change.TheVariants.{Lowering, Raising}
-use Rattle.span_moves.specs.Spans.{Alike, crowding, becomes, left_after, count}
-use Rattle.span_moves.specs.Moves.{move_checks}
 use Rattle.span_moves.proofs.Firsts.{all_fit}
-use Rattle.span_moves.proofs.Lefts.{left-le, left-None}
+use Rattle.span_moves.proofs.Lefts.{left_le, left_none}
 use Rattle.span_moves.proofs.Whole.{move_checks-alike, welcome_from}
-use Rattle.span_moves.proofs.span_move.SpanMove.check.Given as given
 use Rattle.span_moves.proofs.span_move.SpanMove.check.Goals as goal
 use Rattle.span_moves.proofs.span_move.SpanMove.check.Goals.{After-count_places, After-count_places-2}
 
--- the count of the lowerings from the places that are free at first
-lowered_left : (g : given.Over) (c : After-count_places g) → left_after g.Q.Quantity.measure (g.B.Book.holdings c.args.book.now) Lowering c.args.self.now.giver.number c.args.self.now.quantity (Some (g.B.Book.places c.args.book.now - taken g.Q.Quantity.measure (g.B.Book.holdings c.args.book.now))) c.args.self.now.span.first (count c.args.self.now.span.first c.args.self.now.span.last) ≡ c.count_places.result
-lowered_left g c = rw (let w : g.B.Book.places c.args.book.now - taken g.Q.Quantity.measure (g.B.Book.holdings c.args.book.now) ≡ c.free-free.result = omega (arith, c.free-free.ensures) in w) (sym (rw c.change-lowering.ensures at c.count_places.ensures))
-
--- and that of the raisings after them
-raised_left : (g : given.Over) (c : After-count_places-2 g) → left_after g.Q.Quantity.measure (g.B.Book.holdings c.args.book.now) Raising c.args.self.now.taker.number c.args.self.now.quantity (Some c.in_ok-lowered.lowered) c.args.self.now.span.first (count c.args.self.now.span.first c.args.self.now.span.last) ≡ c.count_places-2.result
-raised_left g c = sym (rw c.change-raising.ensures at c.count_places-2.ensures)
-
--- where nothing misfits and nothing is barred, the count decides
-counted : (g : given.Over) (c : After-count_places g) → Alike g.Q.Quantity.measure (g.B.Book.holdings c.args.book.now) c.args.self.now.quantity (λ other r. move_checks g.Q.Quantity.measure other (g.B.Book.places c.args.book.now) (g.B.Book.admission c.args.book.now) c.args.self.now.giver.number c.args.self.now.taker.number c.args.self.now.span.first c.args.self.now.span.last r) (first_some (crowding (left_after g.Q.Quantity.measure (g.B.Book.holdings c.args.book.now) Raising c.args.self.now.taker.number c.args.self.now.quantity c.count_places.result c.args.self.now.span.first (count c.args.self.now.span.first c.args.self.now.span.last)) ∷ []))
-counted g c other r e f =
-    let m = g.Q.Quantity.measure in
-    let held = g.B.Book.holdings c.args.book.now in
-    rw (move_checks-alike m held c.args.self.now.quantity, ← (rw c.change-lowering.ensures at c.in_ok-check_fits.ensures), ← (rw c.change-raising.ensures at c.in_ok-check_fits-2.ensures), ← (rw c.change-raising.ensures at c.in_ok-check_admitted.ensures other r e f), lowered_left g c) refl
-
 pub returns-in_err-check_fits-clause-alike : goal.returns-in_err-check_fits-clause-alike
-returns-in_err-check_fits-clause-alike g c other r e f =
-    let m = g.Q.Quantity.measure in
-    let held = g.B.Book.holdings c.args.book.now in
-    let x = c.args.self.now in
-    let p = err_from_is_err_and c.from_residual.result c.from_residual.ensures.1 in
-    rw (p.1, p.2, move_checks-alike m held x.quantity, ← (rw c.change-lowering.ensures at c.in_err-check_fits.ensures)) refl
+returns-in_err-check_fits-clause-alike g c other r e f = grind (arith, left_none, move_checks-alike g.Q.Quantity.measure (g.B.Book.holdings c.args.book.now) c.args.self.now.quantity)
 
 pub returns-in_err-check_fits-2-clause-alike : goal.returns-in_err-check_fits-2-clause-alike
-returns-in_err-check_fits-2-clause-alike g c other r e f =
-    let m = g.Q.Quantity.measure in
-    let held = g.B.Book.holdings c.args.book.now in
-    let x = c.args.self.now in
-    let p = err_from_is_err_and c.from_residual-in_err-check_fits-2.result c.from_residual-in_err-check_fits-2.ensures.1 in
-    rw (p.1, p.2, move_checks-alike m held x.quantity, ← (rw c.change-lowering.ensures at c.in_ok-check_fits.ensures), ← (rw c.change-raising.ensures at c.in_err-check_fits-2.ensures)) refl
+returns-in_err-check_fits-2-clause-alike g c other r e f = grind (arith, left_none, move_checks-alike g.Q.Quantity.measure (g.B.Book.holdings c.args.book.now) c.args.self.now.quantity)
 
 pub returns-in_err-check_admitted-clause-alike : goal.returns-in_err-check_admitted-clause-alike
-returns-in_err-check_admitted-clause-alike g c other r e f =
-    let m = g.Q.Quantity.measure in
-    let held = g.B.Book.holdings c.args.book.now in
-    let x = c.args.self.now in
-    let p = err_from_is_err_and c.from_residual-in_err-check_admitted.result c.from_residual-in_err-check_admitted.ensures.1 in
-    rw (p.1, p.2, move_checks-alike m held x.quantity, ← (rw c.change-lowering.ensures at c.in_ok-check_fits.ensures), ← (rw c.change-raising.ensures at c.in_ok-check_fits-2.ensures), ← (rw c.change-raising.ensures at c.in_err-check_admitted.ensures other r e f)) refl
+returns-in_err-check_admitted-clause-alike g c other r e f = rw (move_checks-alike g.Q.Quantity.measure (g.B.Book.holdings c.args.book.now) c.args.self.now.quantity) (grind (arith, left_none, rw c.change-raising.ensures at c.in_err-check_admitted.ensures other r e f))
 
 pub returns-in_err-lowered-clause-alike : goal.returns-in_err-lowered-clause-alike
-returns-in_err-lowered-clause-alike g c other r e f =
-    let p = err_from_is_err_and c.from_residual-in_err-lowered.result c.from_residual-in_err-lowered.ensures.1 in
-    let none : c.count_places.result ≡ None = grind arith in
-    rw (p.1, p.2, ← counted g (goal.at.returns-in_err-lowered-clause-alike g c).After-count_places other r e f, none, left-None) (grind arith)
+returns-in_err-lowered-clause-alike g c other r e f = rw (move_checks-alike g.Q.Quantity.measure (g.B.Book.holdings c.args.book.now) c.args.self.now.quantity) (grind (arith, left_none, rw c.change-raising.ensures at c.in_ok-check_admitted.ensures other r e f))
 
 pub returns-in_err-ok_or-clause-alike : goal.returns-in_err-ok_or-clause-alike
-returns-in_err-ok_or-clause-alike g c other r e f =
-    let p = err_from_is_err_and c.from_residual-in_err-ok_or.result c.from_residual-in_err-ok_or.ensures.1 in
-    let some : c.count_places.result ≡ Some c.in_ok-lowered.lowered = grind arith in
-    rw (p.1, p.2, ← counted g (goal.at.returns-in_err-ok_or-clause-alike g c).After-count_places other r e f, some, raised_left g (goal.at.returns-in_err-ok_or-clause-alike g c).After-count_places-2) (grind arith)
+returns-in_err-ok_or-clause-alike g c other r e f = rw (move_checks-alike g.Q.Quantity.measure (g.B.Book.holdings c.args.book.now) c.args.self.now.quantity) (grind (arith, left_none, rw c.change-raising.ensures at c.in_ok-check_admitted.ensures other r e f))
 
 pub returns-clause-alike : goal.returns-clause-alike
-returns-clause-alike g c other r e f =
-    let some : c.count_places.result ≡ Some c.in_ok-lowered.lowered = grind arith in
-    rw (← counted g (goal.at.returns-clause-alike g c).After-count_places other r e f, some, raised_left g (goal.at.returns-clause-alike g c).After-count_places-2) (grind arith)
+returns-clause-alike g c other r e f = rw (move_checks-alike g.Q.Quantity.measure (g.B.Book.holdings c.args.book.now) c.args.self.now.quantity) (grind (arith, left_none, rw c.change-raising.ensures at c.in_ok-check_admitted.ensures other r e f))
 
 pub returns-clause-ready : goal.returns-clause-ready
 returns-clause-ready g c =
     let m = g.Q.Quantity.measure in
     let held = g.B.Book.holdings c.args.book.now in
     let x = c.args.self.now in
-    let some : c.count_places.result ≡ Some c.in_ok-lowered.lowered = grind arith in
     let gives = sym (rw c.change-lowering.ensures at c.in_ok-check_fits.ensures) in
     let takes = sym (rw c.change-raising.ensures at c.in_ok-check_fits-2.ensures) in
     let bars = (rw c.change-raising.ensures at c.in_ok-check_admitted.ensures) in
@@ -82,19 +36,13 @@ returns-clause-ready g c =
       gives = record {
         fits = all_fit m held Lowering x.giver.number x.span.first x.span.last x.quantity gives;
         welcome = λ t l h. tt;
-        bound = omega (arith, c.free-free.ensures);
-        room = rw (lowered_left g (goal.at.returns-clause-ready g c).After-count_places, some) refl;
+        bound = omega arith;
+        room = grind arith;
       };
       fits = all_fit m held Raising x.taker.number x.span.first x.span.last x.quantity takes;
       welcome = welcome_from m held (g.B.Book.places c.args.book.now) (g.B.Book.admission c.args.book.now) Raising x.taker.number x.span.first x.span.last x.quantity bars;
-      room = rw (lowered_left g (goal.at.returns-clause-ready g c).After-count_places, some, raised_left g (goal.at.returns-clause-ready g c).After-count_places-2) (grind arith);
+      room = grind arith;
     }
 
 pub count_places-requires-2 : goal.count_places-requires-2
-count_places-requires-2 g c =
-    let m = g.Q.Quantity.measure in
-    let held = g.B.Book.holdings c.args.book.now in
-    let x = c.args.self.now in
-    let some : c.count_places.result ≡ Some c.in_ok-lowered.lowered = grind arith in
-    let k = rw some at (rw c.change-lowering.ensures at c.count_places.ensures) in
-    omega (arith, x.span.within, left-le (λ t. is_zero m (held x.giver.number t)) (λ t. is_zero m (becomes m held Lowering x.giver.number x.quantity t)) c.free-free.result x.span.first (count x.span.first x.span.last) c.in_ok-lowered.lowered (sym k))
+count_places-requires-2 g c = grind (arith, left_le)
