@@ -10,26 +10,15 @@ pub struct Block {
 }
 
 impl Block {
-    // The quarter at which a block from 0 to 5 starts; at 6 the one at which the last block ends.
+    // The quarter at which a block from 0 to 5 starts.
     fn start(self) -> u8
-        requires { self.number ≤ 6 }
+        requires { self.number < 6 }
         ensures { result ≡ starts self.quarters self.number }
     {
         if self.number == 0 {
             return 0;
         }
         self.quarters.saturating_sub(80) + 16 * (self.number - 1)
-    }
-
-    // The block after this one.
-    fn next(self) -> Block
-        requires { self.number < 6 }
-        ensures { result ≡ record { quarters = self.quarters; number = self.number + 1 } }
-    {
-        Block {
-            number: self.number + 1,
-            ..self
-        }
     }
 
     /// The first quarter.
@@ -44,7 +33,7 @@ impl Block {
         ensures { result ≡ end_of_block self.quarters self.number }
     {
         if self.number < 6 {
-            self.next().start()
+            self.quarters.saturating_sub(80) + 16 * self.number
         } else {
             self.quarters
         }

@@ -34,7 +34,9 @@ fn earned_in<Q: ReserveQuantity>(
     ensures fits { result < 2 ^ 63 }
     ensures bound { overpriced prices.now ≡ false → quarters ≤ 100 → result ≤ most_cents * 10000 * 100 }
 {
-    price_in(prices, direction) as u64 * quantity.tenths(direction) as u64 * quarters as u64
+    u64::from(price_in(prices, direction))
+        * u64::from(quantity.tenths(direction))
+        * u64::from(quarters)
 }
 
 /// What an award of a quantity over so many quarters earns.

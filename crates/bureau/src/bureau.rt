@@ -1,4 +1,4 @@
-ghost use Rattle.std.specs.Prelude.{◌≡◌, min, List, [], ◌∷◌, length, take, drop, nat_lt, slice_set};
+ghost use Rattle.std.specs.Prelude.{◌≡◌, ◌<◌, min, List, [], ◌∷◌, length, take, drop, nat_lt, slice_set};
 ghost use Rattle.bureau.specs.Bureaus.{bureau_of, empty_bureau, is_opened, entry_of, Called, Opening, Stepped};
 ghost use Rattle.bureau.specs.Runs.{paired, Ran};
 ghost use Rattle.laws.specs.Laws.{Entry, Laws};
@@ -33,13 +33,12 @@ fn is_opened<Q: Copy>(answer: Result<Answer<Q>, NotDone>) -> bool
     matches!(answer, Ok(Answer::Opened))
 }
 
-// Puts a reply at a place, if there is one: the test lets the check see that the place is within memory.
+// Puts a reply at a place.
 fn put_reply<Q: Copy>(replies: &mut [Reply<Q>], place: usize, reply: Reply<Q>)
+    requires { place < length replies.old }
     ensures { replies.new ≡ slice_set replies.old place reply }
 {
-    if place < replies.len() {
-        replies[place] = reply;
-    }
+    replies[place] = reply;
 }
 
 impl<D: DayDesk + Drop> Bureau<D> {

@@ -9,7 +9,6 @@ use crate::stages::Announcing;
 use awards::awarded::Award;
 use awards::sheet::Sheet;
 use book::interface::Book;
-use quantity::interface::Quantity;
 use quantity::reserve::ReserveQuantity;
 use refusals::refusal::Refusal;
 

@@ -8,7 +8,6 @@ use crate::stages::{Announcing, Day};
 use awards::sheet::Sheet;
 use book::counting::count_holdings;
 use book::interface::Book;
-use quantity::interface::Quantity;
 use record_list::interface::Records;
 use refusals::refusal::Refusal;
 

@@ -10,7 +10,6 @@ use crate::stages::Day;
 use awards::sheet::Sheet;
 use book::interface::Book;
 use quantity::direction::Direction;
-use quantity::interface::Quantity;
 use quantity::reserve::ReserveQuantity;
 use quantity::up_down::UpDown;
 use record_list::interface::Records;

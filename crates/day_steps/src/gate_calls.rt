@@ -31,25 +31,17 @@ pub fn gate_step<O: Book, L: Records<Record = Request<<O::Q as Quantity>::Row>>>
 {
     // Two arms of one shape: each stage goes on to, or back into, a variant of its own. A trait that names the two variants of a stage,
     // with an impl for each, is longer than the second arm.
-    match std::mem::replace(stage, Stage::Unopened) {
+    let (next, made) = match std::mem::replace(stage, Stage::Unopened) {
         Stage::Announcing(first) => match first.pass_gate(obligations, requests, minute) {
-            Ok(next) => *stage = Stage::Reconciling(next),
-            Err((back, refusal)) => {
-                *stage = Stage::Announcing(back);
-                return Err(refusal.into());
-            }
+            Ok(next) => (Stage::Reconciling(next), Ok(Answer::GatePassed)),
+            Err((back, refusal)) => (Stage::Announcing(back), Err(refusal.into())),
         },
         Stage::Reconciling(second) => match second.pass_gate(obligations, requests, minute) {
-            Ok(next) => *stage = Stage::Intraday(next),
-            Err((back, refusal)) => {
-                *stage = Stage::Reconciling(back);
-                return Err(refusal.into());
-            }
+            Ok(next) => (Stage::Intraday(next), Ok(Answer::GatePassed)),
+            Err((back, refusal)) => (Stage::Reconciling(back), Err(refusal.into())),
         },
-        other => {
-            *stage = other;
-            return Err(NotCalled::NotInThisStage.into());
-        }
-    }
-    Ok(Answer::GatePassed)
+        other => (other, Err(NotCalled::NotInThisStage.into())),
+    };
+    *stage = next;
+    made
 }

@@ -16,7 +16,6 @@ use day::opening::NewDay;
 use day::stages::Announcing;
 use day_calls::calls::{Answer, NotCalled, NotDone};
 use day_calls::desk::Stage;
-use quantity::interface::Quantity;
 use quantity::reserve::ReserveQuantity;
 use record_list::interface::Records;
 

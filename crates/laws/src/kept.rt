@@ -1,6 +1,5 @@
 ghost use Rattle.laws.specs.Laws.{Kept};
 
-use quantity::interface::Quantity;
 use quantity::reserve::ReserveQuantity;
 
 /// The theorem that a call which is performed as defined keeps the law, for every reserve quantity.

@@ -1,7 +1,6 @@
 ghost use Rattle.std.specs.Prelude.{◌≡◌};
 ghost use Rattle.std.specs.Result.{result_err};
 ghost use Rattle.quantity.specs.Directions.{number};
-ghost use Rattle.book.specs.Numbers.{admission_number};
 ghost use Rattle.limit_layer.specs.Limits.{limited, next_layer, limit_at, within_one, within};
 
 use crate::layer::LimitLayer;
@@ -69,7 +68,7 @@ where
     fn admits(&self, provider: u8, quarter: u8, quantity: B::Q) -> Result<(), Cause> {
         let below = self.below.admits(provider, quarter, quantity);
         // Called for what it promises: values of one amount have the same tenths, so they are admitted alike.
-        quantity.tenths_add_up(<B::Q as Quantity>::zero());
+        quantity.tenths_add_up(B::Q::zero());
         if !in_range(provider, quarter) {
             return Ok(());
         }

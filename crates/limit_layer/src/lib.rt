@@ -3,4 +3,3 @@
 pub mod layer;
 pub mod layer_book;
 pub mod table;
-pub mod table_calls;

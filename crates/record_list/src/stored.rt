@@ -37,10 +37,10 @@ impl<E: Copy> Records for StoredList<E> {
     }
 
     fn replace(&mut self, place: usize, item: E) -> bool {
-        if place >= self.entries.len() {
+        let Some(entry) = self.entries.get_mut(place) else {
             return false;
-        }
-        self.entries[place] = item;
+        };
+        *entry = item;
         true
     }
 

@@ -5,7 +5,6 @@ ghost use Rattle.script.specs.Performed.{said, answered, after};
 
 use crate::calls::{Answer, Call, NotDone};
 use book::interface::Book;
-use quantity::interface::Quantity;
 use span_moves::spans::move_span;
 
 /// Makes one call of a book.

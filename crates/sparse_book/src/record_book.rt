@@ -1,7 +1,7 @@
-ghost use Rattle.std.specs.Prelude.{◌≡◌, ℕ, true, length};
+ghost use Rattle.std.specs.Prelude.{◌≡◌, true, length};
 ghost use Rattle.std.specs.Result.{result_err};
 ghost use Rattle.book.specs.Numbers.{answer_number};
-ghost use Rattle.book.specs.Grid.{in_range, amounts};
+ghost use Rattle.book.specs.Grid.{amounts};
 ghost use Rattle.book.specs.Calls.{everything, changed, change_refusal, raise_refusal, lower_refusal, raised, lowered};
 ghost use Rattle.book.specs.Rest.{ChangesHoldings};
 ghost use Rattle.sparse_book.specs.Records.{apart, records_held, changed_slots, raised_slots, lowered_slots};

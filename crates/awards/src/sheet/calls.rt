@@ -4,7 +4,7 @@ ghost use Rattle.awards.specs.Sheets.{view, blank_view};
 
 use crate::sheet::Sheet;
 use crate::sheet::account::Account;
-use book::range::in_range;
+use book::range::Position;
 
 impl Sheet {
     /// The sheet of a day without awards.
@@ -34,8 +34,9 @@ impl Sheet {
     pub fn is_exempt(&self, provider: u8, quarter: u8) -> bool
         ensures { result ≡ (view self.now).exempt provider quarter }
     {
-        in_range(provider, quarter)
-            && self.accounts[usize::from(provider)].exempt[usize::from(quarter)]
+        Position::new(provider, quarter).is_ok_and(|at| {
+            self.accounts[usize::from(at.provider)].exempt[usize::from(at.quarter)]
+        })
     }
 
     /// How many awards there are.
