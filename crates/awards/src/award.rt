@@ -8,7 +8,7 @@ ghost use Rattle.span_moves.specs.Spans.{Alike};
 ghost use Rattle.awards.specs.Sheets.{view};
 ghost use Rattle.awards.specs.Awards.{award_conditions, award_refusal, award_after, award_sheet};
 
-use crate::awarded::Award;
+use crate::awarded::LentAward;
 use crate::blocks::Block;
 use crate::prices::{award_earnings, has_large_price};
 use crate::sheet::Sheet;
@@ -24,11 +24,10 @@ use span_moves::spans::raise_span;
 // The provider of an award, or the first refusal that needs no book.
 fn check_award<Q: ReserveQuantity>(
     sheet: &Sheet,
-    award: Award<Q>,
-    prices: &[u32],
+    award: &LentAward<'_, Q>,
 ) -> Result<Provider, Refusal>
-    ensures provider { IfOk result (λ p. p.number ≡ award.provider) }
-    ensures refusal { result_err result ≡ first_some (award_conditions Q.measure Q.directions (view sheet.now).awards award.provider award.block award.quantity prices.now) }
+    ensures provider { IfOk result (λ p. p.number ≡ award.now.provider) }
+    ensures refusal { result_err result ≡ first_some (award_conditions Q.measure Q.directions (view sheet.now).awards award.now.provider award.now.block award.now.quantity award.now.prices.now) }
 {
     let provider = Provider::try_from(award.provider)?;
     if award.block > 6 {
@@ -37,10 +36,10 @@ fn check_award<Q: ReserveQuantity>(
     if award.quantity.is_zero() {
         return Err(Refusal::ZeroQuantity);
     }
-    if prices.len() != usize::from(Q::direction_count()) {
+    if award.prices.len() != usize::from(Q::direction_count()) {
         return Err(Refusal::WrongPriceCount);
     }
-    if has_large_price(prices) {
+    if has_large_price(award.prices) {
         return Err(Refusal::PriceTooLarge);
     }
     if sheet.award_count() >= MOST_AWARDS {
@@ -56,18 +55,17 @@ pub fn award<O: Book>(
     quarters: u8,
     obligations: &mut O,
     sheet: &mut Sheet,
-    award: Award<O::Q>,
-    prices: &[u32],
+    award: &LentAward<'_, O::Q>,
 ) -> Result<(), Refusal>
 where
     O::Q: ReserveQuantity,
-    ensures answer { answer_number (result_err result) ≡ answer_number (award_refusal O.Q.measure (O.holdings obligations.old) (O.places obligations.old) (O.admission obligations.old) O.Q.directions quarters (view sheet.old).awards award.provider award.block award.quantity prices.now) }
-    ensures alike { Alike O.Q.measure (O.holdings obligations.old) award.quantity (λ other q. award_refusal O.Q.measure other (O.places obligations.old) (O.admission obligations.old) O.Q.directions quarters (view sheet.old).awards award.provider award.block q prices.now) (result_err result) }
-    ensures after { amounts O.Q.measure (O.holdings obligations.new) ≡ award_after O.Q.measure (O.holdings obligations.old) (O.places obligations.old) (O.admission obligations.old) O.Q.directions quarters (view sheet.old).awards award.provider award.block award.quantity prices.now }
+    ensures answer { answer_number (result_err result) ≡ answer_number (award_refusal O.Q.measure (O.holdings obligations.old) (O.places obligations.old) (O.admission obligations.old) O.Q.directions quarters (view sheet.old).awards award.now.provider award.now.block award.now.quantity award.now.prices.now) }
+    ensures alike { Alike O.Q.measure (O.holdings obligations.old) award.now.quantity (λ other q. award_refusal O.Q.measure other (O.places obligations.old) (O.admission obligations.old) O.Q.directions quarters (view sheet.old).awards award.now.provider award.now.block q award.now.prices.now) (result_err result) }
+    ensures after { amounts O.Q.measure (O.holdings obligations.new) ≡ award_after O.Q.measure (O.holdings obligations.old) (O.places obligations.old) (O.admission obligations.old) O.Q.directions quarters (view sheet.old).awards award.now.provider award.now.block award.now.quantity award.now.prices.now }
     ensures rest { ChangesHoldings O.places O.admission O.layer_number obligations.old obligations.new }
-    ensures sheet { view sheet.new ≡ award_sheet O.Q.measure (O.holdings obligations.old) (O.places obligations.old) (O.admission obligations.old) O.Q.tenths_in O.Q.directions quarters award.provider award.block award.quantity prices.now (view sheet.old) }
+    ensures sheet { view sheet.new ≡ award_sheet O.Q.measure (O.holdings obligations.old) (O.places obligations.old) (O.admission obligations.old) O.Q.tenths_in O.Q.directions quarters award.now.provider award.now.block award.now.quantity award.now.prices.now (view sheet.old) }
 {
-    let provider = check_award(sheet, award, prices)?;
+    let provider = check_award(sheet, award)?;
     let block = Block {
         quarters,
         number: award.block,
@@ -81,7 +79,7 @@ where
         },
         award.quantity,
     )?;
-    let earned = award_earnings(award.quantity, prices, block.count());
+    let earned = award_earnings(award.quantity, award.prices, block.count());
     sheet.enter(provider, earned);
     Ok(())
 }

@@ -10,7 +10,8 @@ use crate::sheet::account::Account;
 /// What each provider's awards of a day earn, in fortieths of a cent (one tenth for one quarter at one cent), in which quarters it
 /// is exempt, and how many awards there are. An award earns at most 200,000 cents for 10,000 tenths in 100 quarters and two
 /// directions, so no sum overflows.
-// No `Model`: a sheet is copied, and for that the accounts would have to come back from what a sheet tells, which is functions.
+// No `Model`: what a sheet tells is functions, and the value of a model may hold none. The account stands in a file of its own, since the
+// definition that `bounded` names imports it.
 #[derive(Clone, Copy, PartialEq, Eq, Debug)]
 pub struct Sheet {
     accounts: [Account; 32],

@@ -13,6 +13,7 @@ pub enum Cause {
 }
 
 /// Why a book does not change a holding.
+// Of its own beside the refusals of calls: the caller named provider and quarter, and outside the range is one case for both.
 #[derive(Clone, Copy, PartialEq, Eq, Debug)]
 pub enum BookRefusal {
     OutsideRange,

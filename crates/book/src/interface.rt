@@ -13,7 +13,8 @@ use quantity::interface::Quantity;
 /// and has a layer number. Holdings are compared by the amounts that they stand for.
 // Provider and quarter stay two numbers of any value: callers have them so, and a pair would be made for each call to be taken apart at once.
 // `Position` is the pair once it is checked.
-// Three ghost members and not one record of them: these three are what a book is, and a definition that follows calls changes the holdings alone.
+// Three ghost members beside the layer number, and not one record of them: by rule these three are what a book is, and a definition that
+// follows calls changes the holdings alone.
 pub trait Book {
     type Q: Quantity;
 

@@ -72,6 +72,7 @@ impl<D: DayDesk + Drop> Bureau<D> {
         self.desks.reserve(1)?;
         let mut desk = supply.supply(*self.desks.allocator())?;
         let answer = desk.perform(&DayCall::Open(new));
+        // By `is_opened` and no `?`: that no other answer comes is known by its number alone.
         if !is_opened(answer) {
             return answer;
         }

@@ -32,6 +32,12 @@ impl From<NotDone> for Fault {
 }
 
 impl From<Refusal> for Fault {
+    ghost use Rattle.std.specs.Prelude.{◌≡◌};
+    ghost use Rattle.script.specs.declared.calls.NotDone.TheVariants.{Span};
+    ghost use Rattle.console.specs.declared.fault.Fault.TheVariants.{Refused};
+
+    ghost from_gives = { λ refusal fault. fault ≡ Refused (Span refusal) };
+
     fn from(refusal: Refusal) -> Fault {
         Fault::Refused(NotDone::from(refusal))
     }

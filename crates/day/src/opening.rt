@@ -56,6 +56,7 @@ impl Announcing {
         Ok(Announcing::of(Day {
             number,
             quarters,
+            // The smallest minute and no `Option`: so the rules have it.
             minute: i32::MIN,
         }))
     }

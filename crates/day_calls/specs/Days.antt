@@ -12,6 +12,7 @@ use Rattle.requests.specs.declared.finding.Joining.{Joining}
 use Rattle.requests.specs.declared.finding.Joining.TheVariants.{Unresolved, NotBalanced}
 use Rattle.requests.specs.Announcing.{announcement_place}
 use Rattle.requests.specs.Numbers.{status_number}
+use Rattle.std.specs.Borrow.{Bor}
 use Rattle.awards.specs.declared.awarded.Award.{Award}
 use Rattle.awards.specs.Sheets.{SheetView, view, blank_view}
 use Rattle.awards.specs.Awards.{award_refusal, award_after, award_sheet}
@@ -91,8 +92,8 @@ module _ {Q R : Type 0} (m : Measure Q R) (tenths : Q → ℕ → ℕ) (directio
   abbrev pub open_refused : NewDay → Option Refusal
   open_refused new = opening_refusal m new.number new.quarters s.held s.bids s.requests
 
-  abbrev pub award_refused : Day → Award Q → List ℕ → Option Refusal
-  award_refused day a prices = award_refusal m s.held s.places s.admission directions day.quarters s.sheet.awards a.provider a.block a.quantity prices
+  abbrev pub award_refused : Day → Award Q (Bor (List ℕ)) → Option Refusal
+  award_refused day a = award_refusal m s.held s.places s.admission directions day.quarters s.sheet.awards a.provider a.block a.quantity a.prices.now
 
   abbrev pub announce_refused : Gate → Day → Announcement Q → Option Refusal
   announce_refused gate day a = announce_refusal m day (joining_before gate) a s.requests s.room
@@ -104,7 +105,7 @@ module _ {Q R : Type 0} (m : Measure Q R) (tenths : Q → ℕ → ℕ) (directio
   -- what a call answers
   unfoldable pub answered : LentDayCall Q → Said Q
   answered (Open new) = if_unopened s.stage (unless (open_refused new) (numbered (0 ∷ (1 ∷ [])))) not_in_stage
-  answered (AwardCall a prices) = in_first s.stage (λ day. unless (award_refused day a prices.now) (numbered (0 ∷ (2 ∷ [])))) not_in_stage
+  answered (AwardCall a) = in_first s.stage (λ day. unless (award_refused day a) (numbered (0 ∷ (2 ∷ [])))) not_in_stage
   answered (Announce a) =
       before_gate s.stage (λ gate day. unless (announce_refused gate day a) (numbered (0 ∷ (3 ∷ (announcement_place (joining_before gate) s.requests a.passage ∷ []))))) not_in_stage
   answered (GateCall minute) = before_gate s.stage (λ gate day. unless (gate_refusal gate day minute) (numbered (0 ∷ (4 ∷ [])))) not_in_stage
@@ -115,7 +116,7 @@ module _ {Q R : Type 0} (m : Measure Q R) (tenths : Q → ℕ → ℕ) (directio
   -- the stage after a call
   unfoldable pub stage_after : LentDayCall Q → Stage
   stage_after (Open new) = if_unopened s.stage (unless_refused (open_refused new) (same_stage First (opened_day new.number new.quarters)) s.stage) s.stage
-  stage_after (AwardCall a prices) = s.stage
+  stage_after (AwardCall a) = s.stage
   stage_after (Announce a) = before_gate s.stage (λ gate day. same_stage gate (announced_day day a (announce_refused gate day a))) s.stage
   stage_after (GateCall minute) = before_gate s.stage (λ gate day. unless_refused (gate_refusal gate day minute) (next_stage gate (at_minute day minute)) s.stage) s.stage
   stage_after (Holding p t) = s.stage
@@ -125,8 +126,8 @@ module _ {Q R : Type 0} (m : Measure Q R) (tenths : Q → ℕ → ℕ) (directio
   -- the amounts of the obligations after a call
   unfoldable pub held_after : LentDayCall Q → Grid m.Amount
   held_after (Open new) = amounts m s.held
-  held_after (AwardCall a prices) =
-      in_first s.stage (λ day. award_after m s.held s.places s.admission directions day.quarters s.sheet.awards a.provider a.block a.quantity prices.now) (amounts m s.held)
+  held_after (AwardCall a) =
+      in_first s.stage (λ day. award_after m s.held s.places s.admission directions day.quarters s.sheet.awards a.provider a.block a.quantity a.prices.now) (amounts m s.held)
   held_after (Announce a) = amounts m s.held
   held_after (GateCall minute) = before_gate s.stage (λ gate day. unless_refused (gate_refusal gate day minute) (amounts m (after_moves m s.places s.admission s.held s.requests)) (amounts m s.held)) (amounts m s.held)
   held_after (Holding p t) = amounts m s.held
@@ -136,7 +137,7 @@ module _ {Q R : Type 0} (m : Measure Q R) (tenths : Q → ℕ → ℕ) (directio
   -- the requests after a call
   unfoldable pub requests_after : LentDayCall Q → List (Request R)
   requests_after (Open new) = s.requests
-  requests_after (AwardCall a prices) = s.requests
+  requests_after (AwardCall a) = s.requests
   requests_after (Announce a) = before_gate s.stage (λ gate day. announced_list m day (joining_before gate) a s.requests s.room) s.requests
   requests_after (GateCall minute) = before_gate s.stage (λ gate day. unless_refused (gate_refusal gate day minute) (gated m s.places s.admission gate s.held s.requests) s.requests) s.requests
   requests_after (Holding p t) = s.requests
@@ -146,8 +147,8 @@ module _ {Q R : Type 0} (m : Measure Q R) (tenths : Q → ℕ → ℕ) (directio
   -- the sheet after a call
   unfoldable pub sheet_after : LentDayCall Q → SheetView
   sheet_after (Open new) = if_unopened s.stage (unless_refused (open_refused new) blank_view s.sheet) s.sheet
-  sheet_after (AwardCall a prices) =
-      in_first s.stage (λ day. award_sheet m s.held s.places s.admission tenths directions day.quarters a.provider a.block a.quantity prices.now s.sheet) s.sheet
+  sheet_after (AwardCall a) =
+      in_first s.stage (λ day. award_sheet m s.held s.places s.admission tenths directions day.quarters a.provider a.block a.quantity a.prices.now s.sheet) s.sheet
   sheet_after (Announce a) = s.sheet
   sheet_after (GateCall minute) = s.sheet
   sheet_after (Holding p t) = s.sheet

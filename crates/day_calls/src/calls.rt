@@ -15,7 +15,7 @@ use std::alloc::AllocError;
 pub enum DayCall<Q, P> {
     Open(NewDay),
     /// An award at a price for each direction.
-    Award { award: Award<Q>, prices: P },
+    Award(Award<Q, P>),
     Announce(Announcement<Q>),
     /// The first gate in the first stage, the second in the second.
     Gate { minute: i32 },

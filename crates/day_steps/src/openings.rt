@@ -9,7 +9,7 @@ ghost use Rattle.day.specs.Opening.{opening_refusal, opened_day};
 ghost use Rattle.day_calls.specs.Answers.{said, numbered, unless, not_in_stage};
 ghost use Rattle.day_calls.specs.Days.{if_unopened, in_first, same_stage};
 
-use awards::awarded::Award;
+use awards::awarded::LentAward;
 use awards::sheet::Sheet;
 use book::interface::Book;
 use day::opening::NewDay;
@@ -45,19 +45,18 @@ pub fn award_step<O: Book>(
     stage: &Stage,
     obligations: &mut O,
     sheet: &mut Sheet,
-    award: Award<O::Q>,
-    prices: &[u32],
+    award: &LentAward<'_, O::Q>,
 ) -> Result<Answer<O::Q>, NotDone>
 where
     O::Q: ReserveQuantity,
-    ensures answer { said result ≡ in_first stage.now (λ day. unless (award_refusal O.Q.measure (O.holdings obligations.old) (O.places obligations.old) (O.admission obligations.old) O.Q.directions day.quarters (view sheet.old).awards award.provider award.block award.quantity prices.now) (numbered (0 ∷ (2 ∷ [])))) not_in_stage }
-    ensures after { amounts O.Q.measure (O.holdings obligations.new) ≡ in_first stage.now (λ day. award_after O.Q.measure (O.holdings obligations.old) (O.places obligations.old) (O.admission obligations.old) O.Q.directions day.quarters (view sheet.old).awards award.provider award.block award.quantity prices.now) (amounts O.Q.measure (O.holdings obligations.old)) }
+    ensures answer { said result ≡ in_first stage.now (λ day. unless (award_refusal O.Q.measure (O.holdings obligations.old) (O.places obligations.old) (O.admission obligations.old) O.Q.directions day.quarters (view sheet.old).awards award.now.provider award.now.block award.now.quantity award.now.prices.now) (numbered (0 ∷ (2 ∷ [])))) not_in_stage }
+    ensures after { amounts O.Q.measure (O.holdings obligations.new) ≡ in_first stage.now (λ day. award_after O.Q.measure (O.holdings obligations.old) (O.places obligations.old) (O.admission obligations.old) O.Q.directions day.quarters (view sheet.old).awards award.now.provider award.now.block award.now.quantity award.now.prices.now) (amounts O.Q.measure (O.holdings obligations.old)) }
     ensures rest { ChangesHoldings O.places O.admission O.layer_number obligations.old obligations.new }
-    ensures sheet { view sheet.new ≡ in_first stage.now (λ day. award_sheet O.Q.measure (O.holdings obligations.old) (O.places obligations.old) (O.admission obligations.old) O.Q.tenths_in O.Q.directions day.quarters award.provider award.block award.quantity prices.now (view sheet.old)) (view sheet.old) }
+    ensures sheet { view sheet.new ≡ in_first stage.now (λ day. award_sheet O.Q.measure (O.holdings obligations.old) (O.places obligations.old) (O.admission obligations.old) O.Q.tenths_in O.Q.directions day.quarters award.now.provider award.now.block award.now.quantity award.now.prices.now (view sheet.old)) (view sheet.old) }
 {
     let Stage::Announcing(announcing) = stage else {
         return Err(NotCalled::NotInThisStage.into());
     };
-    announcing.award(obligations, sheet, award, prices)?;
+    announcing.award(obligations, sheet, award)?;
     Ok(Answer::Awarded)
 }

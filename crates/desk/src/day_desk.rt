@@ -44,9 +44,7 @@ where
         } = self;
         match call {
             DayCall::Open(new) => open_step(stage, obligations, bids, requests, sheet, *new),
-            DayCall::Award { award, prices } => {
-                award_step(stage, obligations, sheet, *award, prices)
-            }
+            DayCall::Award(award) => award_step(stage, obligations, sheet, award),
             DayCall::Announce(said) => announce_step(stage, requests, *said),
             DayCall::Gate { minute } => gate_step(stage, obligations, requests, *minute),
             DayCall::Holding { provider, quarter } => {

@@ -24,6 +24,7 @@ pub struct RowBook<M, K> {
 
 impl<M: Slots<Slot = K::Row>, K: Quantity> RowBook<M, K> {
     // Replaces a holding by `new`, refuses as told where that is none, or where there is no free place.
+    // Two parameters and no `Result`: what the quantity's call answered alone decides the holdings afterwards.
     #[tactic(auto, using(std::proofs::lemmas::Bool::Decides::nat_tests, crate::proofs::Tables::few_zero, crate::proofs::Tables::few_stays, crate::proofs::Tables::held_written, crate::proofs::Tables::never_full))]
     fn change(
         &mut self,
@@ -77,9 +78,9 @@ impl<M: Slots<Slot = K::Row>, K: Quantity> Book for RowBook<M, K> {
         0
     }
 
-    // These two bodies, `admits` and `layer` are those of the sparse book too. A trait that has them once would have to state of `change`
+    // The bodies of `raise`, `lower`, `admits` and `layer` are those of the sparse book too. A trait that has them once would have to state of `change`
     // what each of the two books promises besides, and the calls here would still have to repeat the interface's promises beside it.
-    // The interface's promises once more, and two of this book's own: rows beyond 3,200 stay, and so does the loan.
+    // The interface's promises once more, beside which alone the language takes further ones: rows beyond 3,200 stay, and so does the loan.
     #[tactic(auto, using(book::proofs::Changes::raised_is), unfolding(book::specs::Calls::raise_refusal))]
     fn raise(&mut self, provider: u8, quarter: u8, quantity: K) -> Result<(), BookRefusal>
         ensures answer { answer_number (result_err result) ≡ answer_number (raise_refusal K.measure (rows_held K.measure (M.slots self.old.rows)) (rows_places (M.slots self.old.rows)) everything provider quarter quantity) }

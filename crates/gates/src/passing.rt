@@ -104,7 +104,7 @@ pub fn pass_gate<O: Book, L: Records<Record = Request<<O::Q as Quantity>::Row>>>
     ensures judged { Judged O.Q.measure (O.places obligations.old) (O.admission obligations.old) gate (O.holdings obligations.old) (L.contents requests.old) (L.contents requests.new) }
     ensures rest { ChangesHoldings O.places O.admission O.layer_number obligations.old obligations.new }
 {
-    // By places: each turn changes the book and the list, so no iterator can lend the requests.
+    // By places: the interface of lists lends no `&mut` to a record, see `replace`.
     for place in 0..requests.count() {
         settle_at(obligations, requests, gate, place);
     }

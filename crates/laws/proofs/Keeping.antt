@@ -77,18 +77,18 @@ module _ {Q R : Type 0} (m : Measure Q R) (tenths : Q → ℕ → ℕ) (directio
 
   -- an award adds its quantity to the holdings of its block
   award_adds :
-      (a : Award Q) (prices : Bor (List ℕ)) (day : Day) → day_length day.quarters ≡ true → award_refused m tenths directions s day a prices.now ≡ None → (p t : ℕ) →
-      held_after m tenths directions (at (same_stage First day)) (AwardCall a prices) p t ≡ m.plus (award_of m tenths directions day.quarters p t (AwardCall a prices)) (grid p t)
+      (a : Award Q (Bor (List ℕ))) (day : Day) → day_length day.quarters ≡ true → award_refused m tenths directions s day a ≡ None → (p t : ℕ) →
+      held_after m tenths directions (at (same_stage First day)) (AwardCall a) p t ≡ m.plus (award_of m tenths directions day.quarters p t (AwardCall a)) (grid p t)
   unfolding held_after award_refusal award_after
-  award_adds a prices day l e p t = grind (arith, nat_tests, front_clear, front_passes, raise_adds m s.held s.places s.admission, last_end)
+  award_adds a day l e p t = grind (arith, nat_tests, front_clear, front_passes, raise_adds m s.held s.places s.admission, last_end)
 
   award_by :
-      (a : Award Q) (prices : Bor (List ℕ)) (day : Day) (o : Option Refusal) → award_refused m tenths directions s day a prices.now ≡ o → Before (same_stage First day) → said answer ≡ unless o (numbered (0 ∷ (2 ∷ []))) →
-      After (AwardCall a prices) (same_stage First day) (held_after m tenths directions (at (same_stage First day)) (AwardCall a prices)) s.requests (sheet_after m tenths directions (at (same_stage First day)) (AwardCall a prices))
+      (a : Award Q (Bor (List ℕ))) (day : Day) (o : Option Refusal) → award_refused m tenths directions s day a ≡ o → Before (same_stage First day) → said answer ≡ unless o (numbered (0 ∷ (2 ∷ []))) →
+      After (AwardCall a) (same_stage First day) (held_after m tenths directions (at (same_stage First day)) (AwardCall a)) s.requests (sheet_after m tenths directions (at (same_stage First day)) (AwardCall a))
   unfolding held_after sheet_after sum_of earned award_after award_sheet
-  award_by a prices day o e x says =
-      let words = no_word m tenths directions (record { call = AwardCall a prices; answer = answer }) h (λ k. grind (arith, nat_tests)) in
-      let now = award_adds a prices day x.length in
+  award_by a day o e x says =
+      let words = no_word m tenths directions (record { call = AwardCall a; answer = answer }) h (λ k. grind (arith, nat_tests)) in
+      let now = award_adds a day x.length in
       rw words (grind (arith, nat_tests, m.groups, m.neutral))
 
   -- an announcement
@@ -122,7 +122,7 @@ module _ {Q R : Type 0} (m : Measure Q R) (tenths : Q → ℕ → ℕ) (directio
   pub keeps : (call : LentDayCall Q) (stage : Stage) → Keeps call stage
   unfolding answered stage_after held_after requests_after sheet_after
   keeps (Open new) Unopened = open_keeps new
-  keeps (AwardCall a prices) (InAnnouncing w) = award_by a prices w.day _ refl
+  keeps (AwardCall a) (InAnnouncing w) = award_by a w.day _ refl
   keeps (Announce a) (InAnnouncing w) = announce_by a First w.day _ refl
   keeps (Announce a) (InReconciling w) = announce_by a Second w.day _ refl
   keeps (GateCall minute) (InAnnouncing w) = gate_by minute First w.day (gate_refusal First w.day minute)

@@ -55,7 +55,7 @@ module _ {Q R : Type 0} (m : Measure Q R) (tenths : Q → ℕ → ℕ) (directio
   -- what a call, if it is an award, awards a provider in a quarter: its quantity in each quarter of its block
   abbrev pub award_of : ℕ → ℕ → LentDayCall Q → m.Amount
   award_of p t (Open new) = m.none
-  award_of p t (Award a prices) = cond (p == a.provider && in_block quarters a.block t) (m.amount a.quantity) m.none
+  award_of p t (Award a) = cond (p == a.provider && in_block quarters a.block t) (m.amount a.quantity) m.none
   award_of p t (Announce a) = m.none
   award_of p t (Gate minute) = m.none
   award_of p t (Holding x u) = m.none
@@ -73,7 +73,7 @@ module _ {Q R : Type 0} (m : Measure Q R) (tenths : Q → ℕ → ℕ) (directio
   -- what a call, if it is an award, earns a provider
   abbrev pub earning_of : ℕ → LentDayCall Q → ℕ
   earning_of p (Open new) = 0
-  earning_of p (Award a prices) = cond (p == a.provider) (award_earns (tenths a.quantity) prices.now directions (count_of_block quarters a.block)) 0
+  earning_of p (Award a) = cond (p == a.provider) (award_earns (tenths a.quantity) a.prices.now directions (count_of_block quarters a.block)) 0
   earning_of p (Announce a) = 0
   earning_of p (Gate minute) = 0
   earning_of p (Holding x u) = 0
@@ -91,7 +91,7 @@ module _ {Q R : Type 0} (m : Measure Q R) (tenths : Q → ℕ → ℕ) (directio
 -- the announcement of a call, if it is one
 abbrev pub announcement_of : {Q : Type 0} → LentDayCall Q → Option (Announcement Q)
 announcement_of (Open new) = None
-announcement_of (Award a prices) = None
+announcement_of (Award a) = None
 announcement_of (Announce a) = Some a
 announcement_of (Gate minute) = None
 announcement_of (Holding x u) = None

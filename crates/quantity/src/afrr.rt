@@ -6,7 +6,7 @@ pub mod calls;
 pub mod laws;
 
 /// The quantity of aFRR: two directions, up and down, each of at most 10,000 tenths.
-// A type of its own beside the volume: see there.
+// A type of its own beside the volume: see `Volume`.
 #[derive(Clone, Copy, PartialEq, Eq, Debug)]
 pub struct Band {
     up: u16,

@@ -21,6 +21,7 @@ pub trait Quantity: Copy {
         ensures { result ≡ measure.remaining self part };
 
     /// Whether both stand for the same element.
+    // Not `PartialEq`: a generic `==` promises its own member, which each clause would have to tie to the measure.
     fn equals(self, other: Self) -> bool
         ensures { result ≡ measure.alike self other };
 

@@ -23,6 +23,7 @@ pub trait ReserveQuantity: Quantity {
         ensures bound { result ≤ 10000 }
         ensures lacking { directions ≤ number direction → result ≡ 0 };
 
+    // A function, by rule, and no law: who needs the fact of two quantities calls it.
     /// The tenths of the sum of these two, of whichever value stands for it, are the sums of their tenths.
     fn tenths_add_up(self, other: Self)
         ensures { (s : Self) (d : ℕ) → Self.measure.amount s ≡ Self.measure.plus (Self.measure.amount self) (Self.measure.amount other) → tenths_in s d ≡ tenths_in self d + tenths_in other d };

@@ -32,6 +32,7 @@ pub trait Records {
         self.entries().get(place).copied()
     }
 
+    // In place of a `&mut` to the record: of one lent out of lent memory no proof is generated.
     /// Replaces the record at a place, and says whether there is one.
     fn replace(&mut self, place: usize, item: Self::Record) -> bool
         ensures found { result ≡ nat_lt place (length (contents self.old)) }

@@ -71,7 +71,7 @@ impl<'a, E: Copy> Records for RecordList<'a, E> {
         self.slots.len()
     }
 
-    // The interface's promises once more, and that the loan stays.
+    // The interface's promises once more, beside which alone the language takes a further one: that the loan stays.
     fn replace(&mut self, place: usize, item: E) -> bool
         ensures found { result ≡ nat_lt place (length (contents self.old)) }
         ensures list { ListBecomes contents places self.old self.new (slice_set (contents self.old) place item) }

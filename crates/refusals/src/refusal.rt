@@ -59,7 +59,7 @@ pub enum Refusal {
 }
 
 impl Refusal {
-    /// The number of the refusal, from 1 to 19.
+    /// The number of the refusal, from 1 to 19, as the rules give it and programs print it.
     pub fn number(self) -> u8
         ensures { result ≡ number self }
     {

@@ -12,7 +12,7 @@ use quantity::interface::Quantity;
 use refusals::refusal::Refusal;
 
 /// What is done to each holding of a span.
-// An enum, and not two types under a trait: four short matches stand below, where two impls would say each contract again.
+// An enum, and not two types under a trait: the definitions take the change as a value, so that each check is proved once for both.
 #[derive(Clone, Copy, PartialEq, Eq, Debug)]
 pub enum Change {
     Lowering,

@@ -93,7 +93,7 @@ impl<Q: Quantity> SpanChange<Q> {
     /// How many places are free after the change of each quarter, by rising quarter; none where a place is wanting.
     /// A count of 128 bits cannot overflow, however many places a book has.
     #[tactic(auto, using(crate::proofs::Lefts::left_start, crate::proofs::Lefts::left_next, crate::proofs::Lefts::left_le))]
-    pub fn count_places<B: Book<Q = Q>>(self, book: &B, free: u128) -> Option<u128>
+    pub(crate) fn count_places<B: Book<Q = Q>>(self, book: &B, free: u128) -> Option<u128>
         requires { free < 2 ^ 65 }
         ensures { result ≡ left_after Q.measure (B.holdings book.now) self.change self.provider.number self.quantity (Some free) self.span.first (count self.span.first self.span.last) }
     {
@@ -119,7 +119,7 @@ impl<Q: Quantity> SpanChange<Q> {
     }
 
     /// Changes every holding of the span.
-    pub fn apply<B: Book<Q = Q>>(self, book: &mut B)
+    pub(crate) fn apply<B: Book<Q = Q>>(self, book: &mut B)
         requires { Ready Q.measure (B.holdings book.old) (B.places book.old) (B.admission book.old) self.change self.provider.number self.span.first self.span.last self.quantity }
         ensures after { amounts Q.measure (B.holdings book.new) ≡ spanned Q.measure (B.holdings book.old) self.change self.provider.number self.quantity self.span.first (self.span.last + 1) }
         ensures left { left_after Q.measure (B.holdings book.old) self.change self.provider.number self.quantity (Some (B.places book.old - taken Q.measure (B.holdings book.old))) self.span.first (count self.span.first self.span.last) ≡ Some (B.places book.old - taken Q.measure (B.holdings book.new)) }

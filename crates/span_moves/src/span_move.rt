@@ -78,7 +78,7 @@ impl<Q: Quantity> SpanMove<Q> {
     }
 
     /// Lowers every holding of the giver, then raises every holding of the taker.
-    pub fn apply<B: Book<Q = Q>>(self, book: &mut B)
+    pub(crate) fn apply<B: Book<Q = Q>>(self, book: &mut B)
         requires { ReadyToMove Q.measure (B.holdings book.old) (B.places book.old) (B.admission book.old) self.giver.number self.taker.number self.span.first self.span.last self.quantity }
         ensures after { amounts Q.measure (B.holdings book.new) ≡ moved Q.measure (B.holdings book.old) self.giver.number self.taker.number self.quantity self.span.first (self.span.last + 1) }
         ensures rest { ChangesHoldings B.places B.admission B.layer_number book.old book.new }

@@ -33,7 +33,7 @@ fn change_span<B: Book>(
     Ok(())
 }
 
-// Two public calls and not one with a `Change`: so the calls of a span are named and given.
+// Two calls, since the rules name two; the code stands once above.
 
 /// Raises every holding of a span by the quantity, or changes nothing and says why.
 pub fn raise_span<B: Book>(book: &mut B, span: ProviderSpan, quantity: B::Q) -> Result<(), Refusal>

@@ -17,6 +17,7 @@ use std::marker::PhantomData;
 
 /// A book over slots for records, lent or owned: it keeps only holdings that are not zero, and has as many places as slots.
 /// A slot without a record is free, and so is one whose record tells zero. Records are looked at from the front and never move.
+// Slots and no map: the lent kind has no heap, and a raise allocates nothing.
 #[derive(Drop)]
 pub struct RecordBook<M: Slots<Slot = Option<Record<K::Row>>>, K: Quantity> {
     pub(crate) slots: M,
@@ -25,7 +26,7 @@ pub struct RecordBook<M: Slots<Slot = Option<Record<K::Row>>>, K: Quantity> {
 }
 
 impl<M: Slots<Slot = Option<Record<K::Row>>>, K: Quantity> RecordBook<M, K> {
-    // Makes a holding `new`, refuses as told where that is none, or where there is no free slot.
+    // Makes a holding `new`, refuses as told where that is none, or where there is no free slot. `new` and `refusal` are apart as in the full book.
     #[tactic(auto, using(crate::proofs::Freeing::apart_released, crate::proofs::Slots::held_told, crate::proofs::Settling::zero_amounts, crate::proofs::Settling::some_amounts, crate::proofs::Freeing::gone, crate::proofs::Taking::taken_apart, crate::proofs::Settling::full_is), unfolding(crate::specs::Records::settled, crate::specs::Records::place_for))]
     fn change(
         &mut self,
@@ -93,7 +94,7 @@ impl<M: Slots<Slot = Option<Record<K::Row>>>, K: Quantity> Book for RecordBook<M
     }
 
     // The bodies of the full book: see there.
-    // The interface's promises once more, and two of this book's own: which slot is taken or freed, and that the loan stays.
+    // The interface's promises once more, beside which alone the language takes further ones: which slot is taken or freed, and that the loan stays.
     #[tactic(auto, using(book::proofs::Changes::raised_is), unfolding(crate::specs::Records::raised_slots, book::specs::Calls::raise_refusal))]
     fn raise(&mut self, provider: u8, quarter: u8, quantity: K) -> Result<(), BookRefusal>
         ensures answer { answer_number (result_err result) ≡ answer_number (raise_refusal K.measure (records_held K.measure (M.slots self.old.slots)) (length (M.slots self.old.slots)) everything provider quarter quantity) }

@@ -10,9 +10,9 @@ pub returns-in_err-provider : goal.returns-in_err-provider
 unfolding award_after award_sheet
 returns-in_err-provider g c =
     let held = g.O.Book.holdings c.args.obligations.now in
-    let award = c.args.award in
+    let award = c.args.award.now in
     let told : result_err c.from_residual.result ≡ Some c.in_err-provider.field-0.0 = search rules in
-    let alike = refused_first g.O.Q.Quantity.measure held (g.O.Book.places c.args.obligations.now) (g.O.Book.admission c.args.obligations.now) g.O.Q.ReserveQuantity.directions c.args.quarters (view c.args.sheet.now) award.provider award.block c.args.prices.now award.quantity c.in_err-provider.field-0.0 c.in_err-provider.ensures.refusal in
+    let alike = refused_first g.O.Q.Quantity.measure held (g.O.Book.places c.args.obligations.now) (g.O.Book.admission c.args.obligations.now) g.O.Q.ReserveQuantity.directions c.args.quarters (view c.args.sheet.now) award.provider award.block award.prices.now award.quantity c.in_err-provider.field-0.0 c.in_err-provider.ensures.refusal in
     let why = sym (alike held award.quantity refl refl) in
     record {
       answer = ap answer_number (told ∙ sym why);
