@@ -72,6 +72,7 @@ def repeated():
     for name, fn, _, clauses in functions():
         for c in clauses:
             c = re.sub(r'\b[A-Z]\.(Q\.)?(Book|Records|Quantity|ReserveQuantity)\.', '', c)
+            c = re.sub(r'\b[OBL]\.(?=[a-z])', '', c)
             c = re.sub(r'\b(self|book|obligations|requests|list|rows|records|slots)\.', 'x.', c)
             seen.setdefault(c, set()).add(f'{name}: {fn}')
     return [f'{len(v)} functions: {c[:90]}' for c, v in seen.items() if len(v) >= 3 and len(c) > 12]

@@ -80,7 +80,7 @@ impl<D: DayDesk + Drop> Bureau<D> {
         answer
     }
 
-    // Makes any call.
+    // Makes any call. Apart from `perform`, whose law follows from what this promises.
     fn make<S: Supply<D>>(&mut self, supply: &S, call: &LentCall<'_, D::Q>) -> Reply<D::Q>
         ensures { Stepped D.Q.measure D.Q.tenths_in D.Q.directions (bureau_of D.Q.measure D.state self.old) call.now result (bureau_of D.Q.measure D.state self.new) }
     {

@@ -14,6 +14,7 @@ use refusals::refusal::Refusal;
 
 impl Announcing {
     /// Awards a quantity to a provider in every quarter of a block of this day, at a price for each direction.
+    // Here the refusal itself is promised, in the award that it passes on the number.
     #[tactic(auto, using(refusals::proofs::Once::answer_once))]
     pub fn award<O: Book>(
         &self,

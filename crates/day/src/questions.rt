@@ -20,7 +20,7 @@ use requests::request::{Request, Status};
 /// What is missing in each direction, in tenths of a MW.
 pub type Missing = UpDown<u16>;
 
-// A provider, and a quarter of the day.
+// Refuses what is no provider or no quarter of the day. Both questions below promise this refusal beside their values.
 fn check_question(day: Day, provider: u8, quarter: u8) -> Result<(), Refusal>
     ensures { result_err result ≡ question_refusal day provider quarter }
 {

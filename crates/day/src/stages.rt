@@ -10,6 +10,7 @@ use requests::finding::Joining;
 use std::marker::PhantomData;
 
 /// The plain numbers of a day: its number, how many quarters it has, and the last minute that it took.
+// By rule a stage is of plain numbers; the law carries that there are 92, 96 or 100 quarters.
 #[derive(Clone, Copy, PartialEq, Eq, Debug)]
 pub struct Day {
     pub number: u8,

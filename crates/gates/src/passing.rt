@@ -19,6 +19,7 @@ use span_moves::spans::move_span;
 fn passing_quantity<Q: Quantity>(giving: Option<Q::Row>) -> Q
     ensures { result ≡ passing Q.measure giving }
 {
+    // A closure: of the function named alone the check makes no proof.
     giving.map_or(Q::zero(), |row| Q::of_row(row))
 }
 

@@ -16,7 +16,7 @@ fn tenths(n: u16) -> Volume {
     Volume::of_row(n)
 }
 
-// Raises a whole record, fills and frees the others, in any book of sixteen places.
+// Fills sixteen places, frees two of them and uses them again, the first free one first.
 #[test]
 fn sixteen_records_freed_and_used_again(rt: HostRuntime) -> Result<(), Fail> {
     let mut slots: [Option<Record<u16>>; 16] = [Some(Record {

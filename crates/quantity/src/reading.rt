@@ -56,6 +56,7 @@ impl FromStr for Band {
         }
         let up: Volume = up.parse()?;
         let down: Volume = down.parse()?;
+        // Never refused: each part is a volume.
         Band::of_tenths(up.up(), down.up()).ok_or(QuantityFault::TooLarge)
     }
 }

@@ -13,6 +13,7 @@ impl<'a, E: Copy> RecordList<'a, E> {
     ghost use Rattle.std.specs.Prelude.{◌≡◌, [], map, take};
     ghost use Rattle.record_list.specs.Lists.{contents};
 
+    // Each of these promises its slots and its loan: two equations, which no name would make shorter.
     /// The empty list over these slots.
     pub fn empty(slots: &'a mut [E]) -> RecordList<'a, E>
         ensures contents { contents result ≡ [] }

@@ -6,6 +6,7 @@ use quantity::reading::QuantityFault;
 use std::fmt;
 
 /// What is wrong with a line that is not understood.
+// The faults of a quantity are cases here too, so that every fault of a line is told by one list of words.
 #[derive(Clone, Copy, PartialEq, Eq, Debug)]
 pub enum Malformed {
     ServiceFirst,

@@ -8,6 +8,7 @@ use std::str::FromStr;
 /// A quantity as a script writes it, and as it is printed.
 pub trait Written: ReserveQuantity + Display + FromStr<Err = QuantityFault> {}
 
+// Two impls: with one for every such type the check covers no caller.
 impl Written for Volume {}
 
 impl Written for Band {}

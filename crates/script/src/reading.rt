@@ -79,6 +79,7 @@ impl FromStr for Line {
         let mut words = without_comment(line).split_whitespace();
         match words.next() {
             None => Ok(Line::Blank),
+            // These words stand here and where a call is read: an unknown one is told as such before a service is chosen.
             Some("raise" | "lower" | "move" | "holding" | "free") => Ok(Line::Call),
             Some(first) => {
                 let setting = read_setting(first, &mut words)?;

@@ -45,7 +45,7 @@ impl<Q: Quantity> SpanMove<Q> {
         })
     }
 
-    // The change that this move is for the giver or the taker.
+    // The change that this move is for the giver or the taker. Field by field: the two are of different types.
     fn change(&self, change: Change, provider: Provider) -> SpanChange<Q>
         ensures { result ≡ record { change = change; provider = provider; span = self.now.span; quantity = self.now.quantity } }
     {

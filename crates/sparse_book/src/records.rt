@@ -10,6 +10,7 @@ use book::range::Position;
 use quantity::interface::Quantity;
 use record_list::slots::Slots;
 
+// By fields: lent memory holds plain numbers and no `Position`.
 fn has_key<R: Copy>(slot: Option<Record<R>>, at: Position) -> bool
     ensures { result ≡ keyed at.provider at.quarter slot }
 {
@@ -42,7 +43,7 @@ fn slot_told<K: Quantity>(slot: Option<Record<K::Row>>) -> K
     slot.map_or(K::zero(), |record| K::of_row(record.row))
 }
 
-// What the record at a place tells: zero where there is none.
+// What the record at a place tells: zero where there is none. The place is as the search answers it; by `and_then` the proof did not close.
 fn told_at<K: Quantity>(slots: &[Option<Record<K::Row>>], place: Option<usize>) -> K
     ensures { result ≡ told_by_place K.measure slots.now place }
 {
@@ -84,7 +85,7 @@ pub(crate) fn place_of<K: Quantity>(
     }
 }
 
-// Frees the slot at a place, if there is one.
+// Frees the slot at a place as the search answers it, if there is one.
 pub(crate) fn release<M: Slots<Slot = Option<Record<R>>>, R: Copy>(
     slots: &mut M,
     place: Option<usize>,

@@ -29,6 +29,7 @@ impl Quantity for Band {
         self == other
     }
 
+    // Field by field: the row is of another type, without a bound.
     fn row(self) -> BandRow {
         BandRow {
             up: self.up,

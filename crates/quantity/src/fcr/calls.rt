@@ -7,6 +7,7 @@ use std::fmt;
 
 impl Volume {
     /// The volume of this many tenths, or `None` above 10,000: there is none.
+    // Not `TryFrom`: it answers as `join` does, and that of the band takes two numbers.
     pub fn of_tenths(tenths: u16) -> Option<Volume>
         ensures { result ≡ volume_of tenths }
     {
