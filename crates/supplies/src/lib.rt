@@ -1,0 +1,4 @@
+#![tactic(auto)]
+
+pub mod stored;
+pub mod under_limits;
