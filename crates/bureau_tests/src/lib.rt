@@ -6,3 +6,5 @@
 mod bands;
 #[cfg(test)]
 mod volumes;
+#[cfg(test)]
+mod words;

@@ -5,10 +5,8 @@ use bureau::calls::{Call, LentCall, Reply};
 use bureau::supply::Supply;
 use day::opening::NewDay;
 use day_calls::calls::{Answer, DayCall, LentDayCall, NotCalled, NotDone};
-use day_calls::desk::Desk;
 use desk::day_desk::DayDesk;
 use full_book::stored::StoredFullBook;
-use limit_layer::layer::LimitLayer;
 use limit_layer::table::LimitTable;
 use quantity::direction::Direction;
 use quantity::fcr::Volume;
@@ -16,21 +14,14 @@ use quantity::interface::Quantity;
 use record_list::stored::StoredList;
 use refusals::refusal::Refusal;
 use requests::request::Request;
-use sparse_book::stored::StoredSparseBook;
 use std::process::Abort;
-use supplies::stored::{FullBooks, SparseBooks};
-use supplies::under_limits::UnderLimits;
+use supplies::stored::{FullBooks, FullDesk, SparseBooks, SparseDesk};
+use supplies::under_limits::{LimitedDesk, UnderLimits};
 
-type Requests = StoredList<Request<u16>>;
-
-type FullDay = Desk<StoredFullBook<Volume>, StoredFullBook<Volume>, Requests>;
-
-type SparseDay = Desk<StoredSparseBook<Volume>, StoredSparseBook<Volume>, Requests>;
-
-type FullDayUnderLimits = Desk<
-    LimitLayer<StoredFullBook<Volume>>,
-    LimitLayer<StoredFullBook<Volume>>,
-    Requests,
+type FullDayUnderLimits = LimitedDesk<
+    StoredFullBook<Volume>,
+    StoredFullBook<Volume>,
+    StoredList<Request<u16>>,
 >;
 
 fn open(number: u8, quarters: u8) -> LentCall<'static, Volume> {
@@ -101,7 +92,7 @@ fn two_days<D: DayDesk<Q = Volume> + Drop, S: Supply<D>>(
 
 #[test]
 fn two_days_over_full_books(rt: HostRuntime) {
-    two_days::<FullDay, FullBooks>(&rt, &FullBooks { requests: 4 }, Ok(Answer::Awarded));
+    two_days::<FullDesk<Volume>, FullBooks>(&rt, &FullBooks { requests: 4 }, Ok(Answer::Awarded));
 }
 
 // A block of 16 quarters finds no place in a book of 15.
@@ -111,7 +102,7 @@ fn two_days_over_sparse_books(rt: HostRuntime) {
         places: 16,
         requests: 4,
     };
-    two_days::<SparseDay, SparseBooks>(&rt, &roomy, Ok(Answer::Awarded));
+    two_days::<SparseDesk<Volume>, SparseBooks>(&rt, &roomy, Ok(Answer::Awarded));
 }
 
 #[test]

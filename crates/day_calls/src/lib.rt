@@ -2,3 +2,4 @@
 
 pub mod calls;
 pub mod desk;
+pub mod texts;

@@ -1,5 +1,9 @@
+ghost use Rattle.std.specs.Prelude.{Some};
+ghost use Rattle.requests.specs.Texts.{status_text};
+
 use refusals::passage::Passage;
 use refusals::refusal::Refusal;
+use std::fmt;
 
 /// Who announces.
 #[derive(Clone, Copy, PartialEq, Eq, Debug)]
@@ -25,6 +29,25 @@ pub enum Status {
     Accepted,
     Declined,
     Lapsed,
+}
+
+impl fmt::Display for Status {
+    ghost output = { λ x. Some (status_text x) };
+
+    fn fmt<W: fmt::Write>(&self, f: &mut fmt::Formatter<W>) -> fmt::Result {
+        match self {
+            Status::WaitingForCounterpart => write!(f, "Waiting for Counterpart"),
+            Status::BalanceOk => write!(f, "Balance OK"),
+            Status::BalanceError => write!(f, "Balance Error"),
+            Status::Confirmed => write!(f, "Confirmed"),
+            Status::Rejected(None) => write!(f, "Rejected"),
+            Status::Rejected(Some(refusal)) => write!(f, "Rejected {refusal}"),
+            Status::Waiting => write!(f, "Waiting"),
+            Status::Accepted => write!(f, "Accepted"),
+            Status::Declined => write!(f, "Declined"),
+            Status::Lapsed => write!(f, "Lapsed"),
+        }
+    }
 }
 
 /// A request to pass volume from a giver to a taker over a span of quarters.
