@@ -1,6 +1,6 @@
 -- The words of a reply.
 use Rattle.std.specs.Prelude.{ℕ, List, ◌++◌, codes, decimal, Some, Option, Ok, Err}
-use Rattle.day_calls.specs.declared.calls.Answer.TheVariants.{Opened, Awarded, Placed, GatePassed, Held, Lacking, Standing}
+use Rattle.day_calls.specs.declared.calls.Answer.TheVariants.{Opened}
 use Rattle.day_calls.specs.Answers.{Outcome}
 use Rattle.day_calls.specs.Texts.{answer_text, not_done_text}
 
