@@ -3,17 +3,13 @@ use bureau::bureau::Bureau;
 use bureau::calls::{Call, LentCall};
 use day::opening::NewDay;
 use day_calls::calls::{Answer, DayCall, NotDone};
-use day_calls::desk::Desk;
 use full_book::stored::StoredFullBook;
 use quantity::afrr::{Band, BandRow};
 use quantity::interface::Quantity;
 use quantity::up_down::UpDown;
-use record_list::stored::StoredList;
 use refusals::refusal::Refusal;
-use requests::request::Request;
-use supplies::stored::FullBooks;
-
-type BandDay = Desk<StoredFullBook<Band>, StoredFullBook<Band>, StoredList<Request<BandRow>>>;
+use supplies::books::FullBooks;
+use supplies::own_memory::{OwnDesk, OwnMemory};
 
 fn award(prices: &'static [u32]) -> LentCall<'static, Band> {
     Call::On {
@@ -30,8 +26,11 @@ fn award(prices: &'static [u32]) -> LentCall<'static, Band> {
 // A price for each of the two directions, no more and no fewer.
 #[test]
 fn a_day_of_bands(rt: HostRuntime) {
-    let supply = FullBooks { requests: 0 };
-    let mut bureau: Bureau<BandDay> = Bureau::new(rt.alloc());
+    let supply = OwnMemory {
+        books: FullBooks,
+        requests: 0,
+    };
+    let mut bureau: Bureau<OwnDesk<StoredFullBook<Band>>> = Bureau::new(rt.alloc());
     let opening = Call::Open(NewDay {
         number: 31,
         quarters: 100,

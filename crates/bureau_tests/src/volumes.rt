@@ -7,22 +7,16 @@ use day::opening::NewDay;
 use day_calls::calls::{Answer, DayCall, LentDayCall, NotCalled, NotDone};
 use desk::day_desk::DayDesk;
 use full_book::stored::StoredFullBook;
+use limit_layer::layer::LimitLayer;
 use limit_layer::table::LimitTable;
 use quantity::direction::Direction;
 use quantity::fcr::Volume;
 use quantity::interface::Quantity;
-use record_list::stored::StoredList;
 use refusals::refusal::Refusal;
-use requests::request::Request;
+use sparse_book::stored::StoredSparseBook;
 use std::process::Abort;
-use supplies::stored::{FullBooks, FullDesk, SparseBooks, SparseDesk};
-use supplies::under_limits::{LimitedDesk, UnderLimits};
-
-type FullDayUnderLimits = LimitedDesk<
-    StoredFullBook<Volume>,
-    StoredFullBook<Volume>,
-    StoredList<Request<u16>>,
->;
+use supplies::books::{FullBooks, SparseBooks, UnderLimits};
+use supplies::own_memory::{OwnDesk, OwnMemory};
 
 fn open(number: u8, quarters: u8) -> LentCall<'static, Volume> {
     Call::Open(NewDay { number, quarters })
@@ -92,17 +86,29 @@ fn two_days<D: DayDesk<Q = Volume> + Drop, S: Supply<D>>(
 
 #[test]
 fn two_days_over_full_books(rt: HostRuntime) {
-    two_days::<FullDesk<Volume>, FullBooks>(&rt, &FullBooks { requests: 4 }, Ok(Answer::Awarded));
-}
-
-// A block of 16 quarters finds no place in a book of 15.
-#[test]
-fn two_days_over_sparse_books(rt: HostRuntime) {
-    let roomy = SparseBooks {
-        places: 16,
+    let supply = OwnMemory {
+        books: FullBooks,
         requests: 4,
     };
-    two_days::<SparseDesk<Volume>, SparseBooks>(&rt, &roomy, Ok(Answer::Awarded));
+    two_days::<OwnDesk<StoredFullBook<Volume>>, OwnMemory<FullBooks>>(
+        &rt,
+        &supply,
+        Ok(Answer::Awarded),
+    );
+}
+
+// As many places as a block has quarters.
+#[test]
+fn two_days_over_sparse_books(rt: HostRuntime) {
+    let supply = OwnMemory {
+        books: SparseBooks { places: 16 },
+        requests: 4,
+    };
+    two_days::<OwnDesk<StoredSparseBook<Volume>>, OwnMemory<SparseBooks>>(
+        &rt,
+        &supply,
+        Ok(Answer::Awarded),
+    );
 }
 
 #[test]
@@ -110,9 +116,12 @@ fn two_days_under_limits(rt: HostRuntime) {
     let mut limits = LimitTable::new();
     assert!(rt; limits.set(3, Direction::Up, 100).is_ok());
     assert!(rt; limits.set(4, Direction::Up, 199).is_ok());
-    let supply = UnderLimits {
-        below: FullBooks { requests: 4 },
-        limits,
+    let supply = OwnMemory {
+        books: UnderLimits {
+            below: FullBooks,
+            limits,
+        },
+        requests: 4,
     };
     let cause = Cause::Limit {
         layer: 1,
@@ -123,7 +132,7 @@ fn two_days_under_limits(rt: HostRuntime) {
         quarter: 16,
         cause,
     };
-    two_days::<FullDayUnderLimits, UnderLimits<FullBooks>>(
+    two_days::<OwnDesk<LimitLayer<StoredFullBook<Volume>>>, OwnMemory<UnderLimits<FullBooks>>>(
         &rt,
         &supply,
         Err(NotDone::Refused(above)),

@@ -13,7 +13,7 @@ module _ {Q R : Type 0} (m : Measure Q R) where
   unfolding amounts
   none_taken held e = taken_none m held (λ p t. m.same_alike (held p t) m.nothing (ap (λ g. g p t) e ∙ sym m.nothing_none))
 
-  pub fresh : (s : DayState Q R) → s.stage ≡ Unopened → amounts m s.held ≡ (λ _ _. m.none) → amounts m s.bids ≡ (λ _ _. m.none) → s.requests ≡ [] → Fresh m s
+  fresh : (s : DayState Q R) → s.stage ≡ Unopened → amounts m s.held ≡ (λ _ _. m.none) → amounts m s.bids ≡ (λ _ _. m.none) → s.requests ≡ [] → Fresh m s
   fresh s stage held bids requests = record {
     unopened = stage;
     empty = rw (none_taken s.held held, none_taken s.bids bids, requests) (grind (arith, nat_tests));

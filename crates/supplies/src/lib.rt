@@ -1,4 +1,4 @@
 #![tactic(auto)]
 
-pub mod stored;
-pub mod under_limits;
+pub mod books;
+pub mod own_memory;
