@@ -84,6 +84,10 @@ impl<Q: Quantity> SpanChange<Q> {
     pub fn check_admitted<B: Book<Q = Q>>(self, book: &B) -> Result<(), Refusal>
         ensures { Alike Q.measure (B.holdings book.now) self.quantity (λ other q. first_of (unwelcome Q.measure other (B.places book.now) (B.admission book.now) self.change self.provider.number q) self.span.first (count self.span.first self.span.last)) (result_err result) }
     {
+        // Only what is raised has to be admitted: for a lowering no holding is looked at.
+        if let Change::Lowering = self.change {
+            return Ok(());
+        }
         for quarter in self.span.first..=self.span.last {
             self.check_one(book, self.at(quarter))?;
         }
