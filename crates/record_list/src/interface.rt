@@ -10,16 +10,9 @@ pub trait Records {
 
     ghost places: { Self → ℕ };
 
-    /// The records at the places that are used.
-    fn entries(&self) -> &[Self::Record]
-        ensures { result.now ≡ contents self.now };
-
     /// How many places are used.
     fn count(&self) -> usize
-        ensures { result ≡ length (contents self.now) }
-    {
-        self.entries().len()
-    }
+        ensures { result ≡ length (contents self.now) };
 
     /// How many places there are.
     fn room(&self) -> usize
@@ -27,10 +20,7 @@ pub trait Records {
 
     /// The record at a place, none at a place that was never used.
     fn at(&self, place: usize) -> Option<Self::Record>
-        ensures { result ≡ slice_get (contents self.now) place }
-    {
-        self.entries().get(place).copied()
-    }
+        ensures { result ≡ slice_get (contents self.now) place };
 
     // In place of a `&mut` to the record: of one lent out of lent memory no proof is generated.
     /// Replaces the record at a place, and says whether there is one.
@@ -42,4 +32,12 @@ pub trait Records {
     fn append(&mut self, item: Self::Record) -> Option<usize>
         ensures place { result ≡ next_place (contents self.old) (places self.old) }
         ensures list { ListBecomes contents places self.old self.new (pushed (contents self.old) (places self.old) item) };
+}
+
+// Apart from `Records`, so that a list whose records lie elsewhere is one as well.
+/// A list whose records stand in one slice.
+pub trait Entries: Records {
+    /// The records at the places that are used.
+    fn entries(&self) -> &[Self::Record]
+        ensures { result.now ≡ Self.contents self.now };
 }

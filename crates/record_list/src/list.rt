@@ -1,4 +1,4 @@
-use crate::interface::Records;
+use crate::interface::{Entries, Records};
 use crate::slots::{Slots, fill};
 
 /// A list in lent memory: its contents are the first `used` slots, or all where there are fewer.
@@ -63,13 +63,17 @@ impl<'a, E: Copy> Records for RecordList<'a, E> {
 
     ghost places = { places };
 
-    fn entries(&self) -> &[E] {
-        let used = self.used.min(self.slots.len());
-        &self.slots[..used]
+    fn count(&self) -> usize {
+        self.used.min(self.slots.len())
     }
 
     fn room(&self) -> usize {
         self.slots.len()
+    }
+
+    fn at(&self, place: usize) -> Option<E> {
+        let used = self.count();
+        self.slots[..used].get(place).copied()
     }
 
     // The interface's promises once more, beside which alone the language takes a further one: that the loan stays.
@@ -97,6 +101,13 @@ impl<'a, E: Copy> Records for RecordList<'a, E> {
         self.slots[place] = item;
         self.used = place + 1;
         Some(place)
+    }
+}
+
+impl<'a, E: Copy> Entries for RecordList<'a, E> {
+    fn entries(&self) -> &[E] {
+        let used = self.count();
+        &self.slots[..used]
     }
 }
 

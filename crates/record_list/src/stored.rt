@@ -1,6 +1,6 @@
 ghost use Rattle.std.specs.Prelude.{◌≡◌, [], vec_capacity, IfOk};
 
-use crate::interface::Records;
+use crate::interface::{Entries, Records};
 use std::alloc::{AllocError, Global};
 
 /// A list that owns its memory, for as many entries as were asked for when it was made.
@@ -28,12 +28,16 @@ impl<E: Copy> Records for StoredList<E> {
 
     ghost places = { λ l. vec_capacity l.entries };
 
-    fn entries(&self) -> &[E] {
-        self.entries.as_slice()
+    fn count(&self) -> usize {
+        self.entries.len()
     }
 
     fn room(&self) -> usize {
         self.entries.capacity()
+    }
+
+    fn at(&self, place: usize) -> Option<E> {
+        self.entries.get(place).copied()
     }
 
     fn replace(&mut self, place: usize, item: E) -> bool {
@@ -51,6 +55,12 @@ impl<E: Copy> Records for StoredList<E> {
         }
         self.entries.push_reserved(item);
         Some(place)
+    }
+}
+
+impl<E: Copy> Entries for StoredList<E> {
+    fn entries(&self) -> &[E] {
+        self.entries.as_slice()
     }
 }
 

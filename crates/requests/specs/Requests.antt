@@ -31,6 +31,11 @@ same_passage p q = p.giver == q.giver && (p.taker == q.taker && (p.first == q.fi
 abbrev pub matching : {R : Type 0} → Joining → Passage → Request R → Bool
 matching j p r = same_passage r.passage p && joins j r.status
 
+-- whether there is one of which a test holds
+abbrev pub holds_of : {E : Type 0} → (E → Bool) → Option E → Bool
+holds_of test None = false
+holds_of test (Some x) = test x
+
 module _ {Q R : Type 0} (m : Measure Q R) where
   -- one side has announced, both have announced equal quantities, or unequal ones
   abbrev pub balance : Option R → Option R → Status
