@@ -1,4 +1,6 @@
 use console::session::{Tally, run_script};
+use script::malformed::Malformed;
+use script::words::number_up_to;
 
 fn counts(taken: u64, refused: u64) -> Tally {
     Tally {
@@ -74,4 +76,18 @@ fn every_pile_of_afrr(rt: HostRuntime) -> anyhow::Result<()> {
         counts(6, 2)
     );
     Ok(())
+}
+
+#[test]
+fn a_number_up_to_a_bound(rt: HostRuntime) {
+    let read = |word| number_up_to(word, 10_000, Malformed::QuantityTooLarge);
+    assert_eq!(rt;
+        [read("010000"), read("10001"), read("+1"), read("")],
+        [
+            Ok(10_000),
+            Err(Malformed::QuantityTooLarge),
+            Err(Malformed::NotANumber),
+            Err(Malformed::NotANumber),
+        ]
+    );
 }

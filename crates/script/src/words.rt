@@ -1,6 +1,7 @@
-ghost use Rattle.std.specs.Prelude.{◌≡◌, [], ◌∷◌, Ok, IfOk, OnOk};
+ghost use Rattle.std.specs.Prelude.{◌≡◌, ◌≤◌, [], ◌∷◌, Ok, IfOk, OnOk};
 ghost use Rattle.std.specs.Str.Iter.{split_whitespace_rest};
 ghost use Rattle.std.specs.Str.Parse.{IsNumeral};
+ghost use Rattle.quantity.specs.Written.{Writes};
 ghost use Rattle.script.specs.Words.{HasWords, Takes, before_comment};
 
 use crate::malformed::Malformed;
@@ -19,6 +20,18 @@ where
         return Err(Malformed::NotANumber);
     }
     word.parse().or(Err(too_large))
+}
+
+/// A number written in digits alone, at most `most`; a larger one is told as it is given here.
+pub fn number_up_to(word: &str, most: u64, too_large: Malformed) -> Result<u64, Malformed>
+    ensures bound { IfOk result (λ n. n ≤ most) }
+    ensures value { IfOk result (λ n. Writes word.now n) }
+{
+    let n: u64 = number(word, too_large)?;
+    if n > most {
+        return Err(too_large);
+    }
+    Ok(n)
 }
 
 /// A line up to its comment.
