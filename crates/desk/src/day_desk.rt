@@ -13,16 +13,27 @@ use quantity::reserve::ReserveQuantity;
 use record_list::interface::Records;
 use requests::request::Request;
 
-/// A desk at which every call of one day can be made. Contracts know it by its `state`.
-pub trait DayDesk {
-    type Q: ReserveQuantity;
+// Apart from `DayDesk`, since a supply makes days of any quantity, and only calls need a reserve quantity.
+/// What holds one day. Contracts know it by its `state`.
+pub trait OneDay {
+    type Q: Quantity;
 
     ghost state: { Self → DayState Self.Q Self.Q.Row };
+}
 
+/// A desk at which every call of one day can be made.
+pub trait DayDesk: OneDay<Q: ReserveQuantity> {
     /// Makes any call of the day. Whatever bureau it is part of, and whatever was called before, the law goes on to hold.
     fn perform(&mut self, call: &LentDayCall<'_, Self::Q>) -> Result<Answer<Self::Q>, NotDone>
-        ensures performed { Performed Self.Q.measure Self.Q.tenths_in Self.Q.directions (state self.old) call.now result (state self.new) }
-        ensures law { KeepsLaw Self.Q.measure Self.Q.tenths_in Self.Q.directions (state self.old) call.now result (state self.new) };
+        ensures performed { Performed Self.Q.measure Self.Q.tenths_in Self.Q.directions (Self.state self.old) call.now result (Self.state self.new) }
+        ensures law { KeepsLaw Self.Q.measure Self.Q.tenths_in Self.Q.directions (Self.state self.old) call.now result (Self.state self.new) };
+}
+
+impl<O: Book, B: Book<Q = O::Q>, L: Records<Record = Request<<O::Q as Quantity>::Row>>> OneDay
+    for Desk<O, B, L> {
+    type Q = O::Q;
+
+    ghost state = { state_of O.holdings O.places O.admission B.holdings L.contents L.places };
 }
 
 impl<O: Book, B: Book<Q = O::Q>, L: Records<Record = Request<<O::Q as Quantity>::Row>>> DayDesk
@@ -30,10 +41,6 @@ impl<O: Book, B: Book<Q = O::Q>, L: Records<Record = Request<<O::Q as Quantity>:
 where
     O::Q: ReserveQuantity,
 {
-    type Q = O::Q;
-
-    ghost state = { state_of O.holdings O.places O.admission B.holdings L.contents L.places };
-
     fn perform(&mut self, call: &LentDayCall<'_, O::Q>) -> Result<Answer<O::Q>, NotDone> {
         let Desk {
             stage,

@@ -8,7 +8,6 @@ use book::interface::Book;
 use bureau::supply::Supply;
 use day_calls::desk::{Desk, Stage};
 use quantity::interface::Quantity;
-use quantity::reserve::ReserveQuantity;
 use record_list::stored::StoredList;
 use requests::request::Request;
 use std::alloc::{AllocError, Global};
@@ -44,10 +43,7 @@ impl<M> OwnMemory<M> {
     }
 }
 
-impl<B: Book + Drop, M: NewBook<B>> Supply<OwnDesk<B>> for OwnMemory<M>
-where
-    B::Q: ReserveQuantity,
-{
+impl<B: Book + Drop, M: NewBook<B>> Supply<OwnDesk<B>> for OwnMemory<M> {
     fn supply(&self, heap: Global) -> Result<OwnDesk<B>, AllocError> {
         self.desk(heap)
     }
