@@ -2,6 +2,7 @@ use crate::bands::band;
 use book::answers::BookRefusal;
 use book::interface::Book;
 use full_book::lent::FullBook;
+use full_book::rows::{lower, raise};
 use quantity::afrr::{Band, BandRow};
 use quantity::fcr::Volume;
 use quantity::interface::Quantity;
@@ -121,4 +122,25 @@ fn bands_of_one_holding(rt: HostRuntime) {
     ];
     assert_eq!(rt; answers, [Ok(()), Err(BookRefusal::NoRemainder), Ok(())]);
     assert_eq!(rt; rows[99], BandRow { up: 0, down: 15 });
+}
+
+#[test]
+fn rows_raised_and_lowered(rt: HostRuntime) {
+    let mut rows = [7u16; 3201];
+    let answers = [
+        raise(&mut rows, 31, 99, Volume::of_row(40)),
+        lower(&mut rows, 31, 99, Volume::of_row(15)),
+        lower(&mut rows, 31, 99, Volume::of_row(33)),
+        raise(&mut rows, 32, 0, Volume::of_row(1)),
+    ];
+    assert_eq!(rt;
+        answers,
+        [
+            Ok(()),
+            Ok(()),
+            Err(BookRefusal::NoRemainder),
+            Err(BookRefusal::OutsideRange),
+        ]
+    );
+    assert_eq!(rt; [rows[3198], rows[3199], rows[3200]], [7, 32, 7]);
 }

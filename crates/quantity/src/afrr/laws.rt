@@ -38,7 +38,11 @@ impl Quantity for Band {
     }
 
     fn of_row(row: BandRow) -> Band {
-        Band::of_tenths(row.up, row.down).unwrap_or(Band::zero())
+        // By a match and not by `unwrap_or`, of which the compiler makes slower code where rows are counted.
+        match Band::of_tenths(row.up, row.down) {
+            Some(band) => band,
+            None => Band::zero(),
+        }
     }
 }
 
