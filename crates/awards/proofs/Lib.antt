@@ -1,2 +1,3 @@
 pub mod Quarters
+pub mod Earned
 pub mod Awarding

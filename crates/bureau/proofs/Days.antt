@@ -18,16 +18,16 @@ use Rattle.bureau.specs.Bureaus.{absent_day, bureau_of, is_opened, OpenedDay, Ca
 
 module _ {D S : Type 0} (f : D → S) (none : S) (ds : List D) where
   -- the day at a handle that there is
-  day_at : (d : ℕ) (x : D) → d < length ds → x ≡ get_or ds d x → get_or (map f ds) d none ≡ f x
+  pub day_at : (d : ℕ) (x : D) → d < length ds → x ≡ get_or ds d x → get_or (map f ds) d none ≡ f x
   day_at d x h e = grind (arith, common_steps)
 
   -- one desk is changed
-  day_changed : (d : ℕ) (w : D) → d < length ds → (λ k. get_or (map f (set ds d w)) k none) ≡ put_day (λ k. get_or (map f ds) k none) d (f w)
+  pub day_changed : (d : ℕ) (w : D) → d < length ds → (λ k. get_or (map f (set ds d w)) k none) ≡ put_day (λ k. get_or (map f ds) k none) d (f w)
   unfolding put_day
   day_changed d w h = fun_ext (λ k. rw (map-set f ds d w) (let l = length-map ds f in grind (arith, nat_tests, common_steps)))
 
   -- one desk is added at the end, or none
-  day_added : (kept : Bool) (w : D) → (λ k. get_or (map f (cond kept (ds ++ (w ∷ [])) ds)) k none) ≡ cond kept (put_day (λ k. get_or (map f ds) k none) (length ds) (f w)) (λ k. get_or (map f ds) k none)
+  pub day_added : (kept : Bool) (w : D) → (λ k. get_or (map f (cond kept (ds ++ (w ∷ [])) ds)) k none) ≡ cond kept (put_day (λ k. get_or (map f ds) k none) (length ds) (f w)) (λ k. get_or (map f ds) k none)
   unfolding put_day
   day_added true w = fun_ext (λ k. rw (map-append f ds (w ∷ [])) (let l = length-map ds f in grind (arith, nat_tests, common_steps)))
   day_added false w = refl

@@ -69,7 +69,7 @@ module _ {Q R : Type 0} (m : Measure Q R) (tenths : Q → ℕ → ℕ) (directio
   called_keeps true before after d call answer p h laws = rw p.days_are (kept m tenths directions (before.days d) p.then call answer p.performed d before.days h refl laws)
   called_keeps false before after d call answer p h laws = not_made NoSuchDay d (record { call = call; answer = answer }) before.days after.days h p.0 p.1.days_stay laws
 
-  stepped_keeps : (before after : BureauState Q R) (call : LentCall Q) (reply : Reply Q) → ((k : ℕ) → before.count ≤ k → before.days k ≡ absent_day m) → Stepped m tenths directions before call reply after → (h : List (Entry Q)) → Laws m tenths directions h before.days → Laws m tenths directions (entry_of call reply ∷ h) after.days
+  pub stepped_keeps : (before after : BureauState Q R) (call : LentCall Q) (reply : Reply Q) → ((k : ℕ) → before.count ≤ k → before.days k ≡ absent_day m) → Stepped m tenths directions before call reply after → (h : List (Entry Q)) → Laws m tenths directions h before.days → Laws m tenths directions (entry_of call reply ∷ h) after.days
   stepped_keeps before after (Open new) reply absent s h laws =
       ⊎_elim
       (λ none. not_made NoMemory reply.day (record { call = OpenDay new; answer = reply.answer }) before.days after.days h none.0 none.1.days_stay laws)

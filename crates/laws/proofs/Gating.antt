@@ -14,7 +14,7 @@ use Rattle.laws.specs.Sums.{sum_from}
 use Rattle.laws.specs.Volumes.{from_giver, to_taker}
 use Rattle.laws.specs.Laws.{Founded}
 use Rattle.laws.proofs.Sums.{neutral_right, past, swap4, cancels_right}
-use Rattle.laws.proofs.Stands.{Words, counted, passed, Volume, AllFounded}
+use Rattle.laws.proofs.Stands.{Words, counted, passed, Volume, AllFounded, founded_from}
 
 module _ {Q R : Type 0} (m : Measure Q R) where
   -- one request and the rest: h is what is held before, n after the one, l after all
@@ -44,7 +44,7 @@ module _ {Q R : Type 0} (m : Measure Q R) where
         (awards : ℕ → ℕ → m.Amount) (words : Words Q) (held : Grid Q) (rs : List (Request R)) → AllFounded m words rs →
         Volume m awards words (amounts m held) rs → Volume m awards words (amounts m (after_moves m places admission held rs)) (gated m places admission gate held rs)
     gate_volume awards words held rs founded volume p t hp ht =
-        let sums = gate_sums p t words 0 held rs (λ j i e. grind (arith, founded i)) in
+        let sums = gate_sums p t words 0 held rs (founded_from m words rs founded) in
         cancels_right m _ _ (passed m (to_taker m p t) words rs) (grind (arith, volume p t hp ht, past m, m.groups, m.commutes))
 
     -- every request is still as it was announced last

@@ -1,8 +1,12 @@
+pub mod Parts
 pub mod Sums
 pub mod Answers
 pub mod Stands
 pub mod Together
 pub mod Gating
+pub mod Hearing
 pub mod Announcing
+pub mod Awarding
+pub mod Opening
 pub mod Keeping
 pub mod Theorem

@@ -53,6 +53,11 @@ module _ {Q R : Type 0} (m : Measure Q R) where
   below_plus f g zero = sym (m.neutral m.none)
   below_plus f g (suc n) = cc (below_plus f g n, swap4 (f n) (g n) (sum_below m f n) (sum_below m g n))
 
+  pub below_none : (n : ℕ) → sum_below m (λ k. m.none) n ≡ m.none
+  unfolding sum_below
+  below_none zero = refl
+  below_none (suc n) = m.neutral (sum_below m (λ k. m.none) n) ∙ below_none n
+
   -- what one provider p has, and the others do not
   abbrev pub only : ℕ → Bool → m.Amount → ℕ → m.Amount
   only p b a k = cond (eqb k p && b) a m.none

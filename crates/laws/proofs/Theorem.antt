@@ -3,14 +3,14 @@ use Rattle.std.proofs.Common.{◌≡◌, ℕ, eqb, List, [], ◌∷◌, sym, ref
 use Rattle.std.proofs.lemmas.Bool.{cond_both, eqb-true, eqb-false}
 use Rattle.std.proofs.lemmas.Bool.Decides.{nat_tests}
 use Rattle.quantity.specs.Measure.{Measure}
+use Rattle.book.specs.Grid.{amounts}
 use Rattle.day_calls.specs.Calls.{LentDayCall}
 use Rattle.day_calls.specs.declared.desk.Stage.TheVariants.{Unopened}
 use Rattle.day_calls.specs.Answers.{Outcome}
 use Rattle.day_calls.specs.Days.{DayState}
-use Rattle.laws.specs.Sums.{sum_of}
-use Rattle.laws.specs.Volumes.{Event, earned}
+use Rattle.laws.specs.Volumes.{Event}
 use Rattle.laws.specs.Laws.{Entry, of_day, put_day, DayLaw, Performed, Laws, Kept}
-use Rattle.laws.proofs.Stands.{stands}
+use Rattle.laws.proofs.Stands.{stands, nothing_yet}
 use Rattle.laws.proofs.Together.{law_stands}
 use Rattle.laws.proofs.Keeping.{keeps}
 
@@ -43,5 +43,5 @@ module _ {Q R : Type 0} (m : Measure Q R) (tenths : Q → ℕ → ℕ) (directio
 
   -- before the first call: days that are not opened
   pub begins : (days : ℕ → DayState Q R) → ((d : ℕ) → (days d).stage ≡ Unopened) → Laws m tenths directions [] days
-  unfolding of_day sum_of earned
-  begins days unopened d = law_stands m tenths directions [] (days d) (rw (unopened d) (record { volume = tt; earnings = tt; founded = tt; length = tt; quiet = λ quarters p t. (refl, refl) }))
+  unfolding of_day
+  begins days unopened d = law_stands m tenths directions [] (days d) (rw (unopened d) (nothing_yet m tenths directions (amounts m (days d).held) (days d).requests (days d).sheet))

@@ -6,14 +6,22 @@ use Rattle.book.specs.Grid.{Grid, amounts}
 use Rattle.awards.specs.Sheets.{SheetView}
 use Rattle.requests.specs.declared.request.Request.{Request}
 use Rattle.requests.specs.declared.announcement.Announcement.{Announcement}
+use Rattle.day.specs.declared.stages.Day.{Day}
 use Rattle.day_calls.specs.declared.desk.Stage.{Stage}
-use Rattle.day_calls.specs.declared.desk.Stage.TheVariants.{Unopened}
+use Rattle.day_calls.specs.declared.desk.Stage.TheVariants.{Unopened, Announcing as InAnnouncing, Reconciling as InReconciling, Intraday as InIntraday}
 use Rattle.day_calls.specs.Days.{DayState}
 use Rattle.laws.specs.Sums.{sum_from, sum_below}
 use Rattle.laws.specs.Volumes.{Event, is_confirmed, from_giver, to_taker}
 use Rattle.laws.specs.Laws.{Opened, Founded, DayLaw}
 use Rattle.laws.proofs.Sums.{cancels_right, below_alike, below_plus, below_one}
-use Rattle.laws.proofs.Stands.{Words, counted, passed, Volume, AllFounded, StandsAt, awards_of}
+use Rattle.laws.proofs.Stands.{Words, counted, passed, Volume, AllFounded, founded_from, StandsAt, awards_of}
+
+-- what follows of an opened day
+pub opened_map : (stage : Stage) (A B C : Day → Type 0) → ((day : Day) → A day → B day → C day) → Opened stage A → Opened stage B → Opened stage C
+opened_map Unopened A B C f a b = tt
+opened_map (InAnnouncing s) A B C f a b = f s.day a b
+opened_map (InReconciling s) A B C f a b = f s.day a b
+opened_map (InIntraday s) A B C f a b = f s.day a b
 
 module _ {Q R : Type 0} (m : Measure Q R) where
   -- the last word for a request: its giver and its taker are both counted
@@ -34,7 +42,7 @@ module _ {Q R : Type 0} (m : Measure Q R) where
 
   pub holdings_awards : (awards : ℕ → ℕ → m.Amount) (words : Words Q) (grid : Grid m.Amount) (rs : List (Request R)) → Volume m awards words grid rs → AllFounded m words rs → (t : ℕ) → t < 100 → sum_below m (λ p. grid p t) 32 ≡ sum_below m (λ p. awards p t) 32
   holdings_awards awards words grid rs volume founded t h =
-      let same = all_even words t 0 rs (λ j i e. grind (arith, founded i)) in
+      let same = all_even words t 0 rs (founded_from m words rs founded) in
       let sums = simp below_plus at (below_alike m _ _ 32 (λ p l. volume p t l h)) in
       cancels_right m _ _ (sum_below m (λ p. passed m (to_taker m p t) words rs) 32) (cc)
 

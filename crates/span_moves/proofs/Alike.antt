@@ -1,14 +1,19 @@
 -- Values of one amount are treated alike.
-use Rattle.std.proofs.Common.{◌≡◌, ℕ, Some, None, Option, refl, ap, arith}
+use Rattle.std.proofs.Common.{◌≡◌, ℕ, true, is_some, Some, None, Option, sym, refl, ap, subst, arith}
 use mathlib.Core.Path.{fun_ext}
-use Rattle.quantity.specs.Measure.{Measure, is_zero}
+use Rattle.std.proofs.lemmas.Bool.{true≢false}
+use Rattle.quantity.specs.Measure.{Measure, Sum, Rest, is_zero}
 use Rattle.book.specs.Grid.{Grid, amounts, total, filled, taken}
 use Rattle.book.specs.Admissions.{Admission}
 use Rattle.book.proofs.Counts.{total_alike, taken_is}
 use Rattle.span_moves.specs.declared.change.Change.{Change}
 use Rattle.span_moves.specs.declared.change.Change.TheVariants.{Lowering, Raising}
-use Rattle.span_moves.specs.Spans.{next, first_of, left_after, becomes, unfit}
+use Rattle.span_moves.specs.Spans.{next, first_of, left_after, becomes, unfit, barred_sum, unadmitted}
 use Rattle.span_moves.specs.Moves.{free_places}
+
+pub some_from : {A : Type 0} (o : Option A) → is_some o ≡ true → (x : A) × (o ≡ Some x)
+some_from None e = absurd (true≢false (sym e))
+some_from (Some x) e = (x, refl)
 
 module _ {Q R : Type 0} (m : Measure Q R) where
   pub zero_alike : (a b : Q) → m.amount a ≡ m.amount b → is_zero m a ≡ is_zero m b
@@ -30,8 +35,23 @@ module _ {Q R : Type 0} (m : Measure Q R) where
   next_same a b q r e f Lowering = grind (arith, m.remains a q, m.remains b r, m.fitting, m.cancels (m.amount q))
   next_same a b q r e f Raising = grind (arith, m.joins a q, m.joins b r, m.fitting)
 
+  pub next_alike : (change : Change) (a b q r d : Q) → m.amount a ≡ m.amount b → m.amount q ≡ m.amount r → next m change b r ≡ Some d → (c : Q) × (next m change a q ≡ Some c) × (m.amount c ≡ m.amount d)
+  next_alike change a b q r d e f h = grind (arith, next_same a b q r e f change)
+
+  -- what the next holding is to the present one
+  abbrev pub Next : Change → Q → Q → Q → Type 0
+  Next Lowering a q d = m.plus (m.amount q) (m.amount d) ≡ m.amount a
+  Next Raising a q d = m.amount d ≡ m.plus (m.amount a) (m.amount q)
+
+  pub next_is : (change : Change) (a q d : Q) → next m change a q ≡ Some d → Next change a q d
+  next_is Lowering a q d e = subst (Rest m.plus m.Fits m.amount a q) e (m.remains a q)
+  next_is Raising a q d e = subst (Sum m.plus m.Fits m.amount a q) e (m.joins a q)
+
 -- two rows of holdings, and two quantities, of the same amounts
 module _ {Q R : Type 0} (m : Measure Q R) (held other : Grid Q) (p : ℕ) (q r : Q) (row : (t : ℕ) → m.amount (other p t) ≡ m.amount (held p t)) (f : m.amount r ≡ m.amount q) where
+  pub unfit_row : (change : Change) (lo n : ℕ) → first_of (unfit m other change p r) lo n ≡ first_of (unfit m held change p q) lo n
+  unfit_row change lo n = ap (λ g. first_of g lo n) (fun_ext (λ t. grind (arith, next_same m (other p t) (held p t) r q (row t) f change)))
+
   pub became_row : (change : Change) (t : ℕ) → m.amount (becomes m other change p r t) ≡ m.amount (becomes m held change p q t)
   became_row change t = grind (arith, row t, next_same m (other p t) (held p t) r q (row t) f change)
 
@@ -39,9 +59,24 @@ module _ {Q R : Type 0} (m : Measure Q R) (held other : Grid Q) (p : ℕ) (q r :
   left_row change free lo n =
       rw (fun_ext (λ t. zero_alike m (other p t) (held p t) (row t)), fun_ext (λ t. zero_alike m (becomes m other change p r t) (becomes m held change p q t) (became_row change t))) refl
 
+  -- where all values of the sum are admitted alike, so are the raises
+  module _ (admission : ℕ → ℕ → Q → Admission) (t : ℕ) where
+    abbrev Fair : Option Q → Type 0
+    Fair None = Unit {0}
+    Fair (Some s) = (v : Q) → m.amount v ≡ m.amount s → admission p t v ≡ admission p t s
+
+    barred_same : (o sum : Option Q) → Same m o sum → Fair sum → barred_sum (admission p t) p t o ≡ barred_sum (admission p t) p t sum
+    barred_same None None s h = refl
+    barred_same None (Some d) s h = absurd s
+    barred_same (Some c) None s h = absurd s
+    barred_same (Some c) (Some d) s h = rw (h c s) refl
+
+    pub barred_row : (sum : Option Q) → m.joined (held p t) q ≡ sum → Fair sum → unadmitted m other admission p r t ≡ barred_sum (admission p t) p t sum
+    barred_row sum e h = barred_same (m.joined (other p t) r) sum (subst (Same m (m.joined (other p t) r)) e (next_same m (other p t) (held p t) r q (row t) f Raising)) h
+
 -- holdings of the same amounts
 module _ {Q R : Type 0} (m : Measure Q R) (held other : Grid Q) (e : amounts m other ≡ amounts m held) where
-  rows : (p t : ℕ) → m.amount (other p t) ≡ m.amount (held p t)
+  pub rows : (p t : ℕ) → m.amount (other p t) ≡ m.amount (held p t)
   unfolding amounts
   rows p t = ap (λ g. g p t) e
 
@@ -53,7 +88,7 @@ module _ {Q R : Type 0} (m : Measure Q R) (held other : Grid Q) (e : amounts m o
     both_next t = next_same m (other p t) (held p t) r q (rows p t) f change
 
     pub fits_alike : (lo n : ℕ) → first_of (unfit m other change p r) lo n ≡ first_of (unfit m held change p q) lo n
-    fits_alike lo n = ap (λ g. first_of g lo n) (fun_ext (λ t. grind (arith, both_next t)))
+    fits_alike lo n = unfit_row m held other p q r (rows p) f change lo n
 
     pub lefts_alike : (free : Option ℕ) (lo n : ℕ) → left_after m other change p r free lo n ≡ left_after m held change p q free lo n
     lefts_alike free lo n = left_row m held other p q r (rows p) f change free lo n

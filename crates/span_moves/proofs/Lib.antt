@@ -1,4 +1,4 @@
-mod Firsts
+pub mod Firsts
 mod Lefts
 pub mod Alike
 mod Spanned

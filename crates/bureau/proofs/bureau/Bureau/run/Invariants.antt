@@ -9,8 +9,8 @@ invariant-loop-i g l =
     let m = g.D.Q.Quantity.measure in
     let tenths = g.D.Q.ReserveQuantity.tenths_in in
     let directions = g.D.Q.ReserveQuantity.directions in
-    let start = bureau_of m g.D.DayDesk.state l.initial.self in
+    let start = bureau_of m g.D.OneDay.state l.initial.self in
     record {
-      ran : (h : List (Entry g.row.D-Q.Denot)) → Laws m tenths directions h start.days → Ran m tenths directions h start (paired (take l.i l.calls) (take l.i l.replies) []) (bureau_of m g.D.DayDesk.state l.self);
+      ran : (h : List (Entry g.row.D-Q.Denot)) → Laws m tenths directions h start.days → Ran m tenths directions h start (paired (take l.i l.calls) (take l.i l.replies) []) (bureau_of m g.D.OneDay.state l.self);
       rest : (k : ℕ) → l.i ≤ k → drop k l.replies ≡ drop k l.initial.replies;
     }
